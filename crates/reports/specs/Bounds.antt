@@ -17,6 +17,15 @@ use Rattle.reports.specs.Numbers.{field-number, is-transition, is-transport, i
 use Rattle.reports.specs.Values.{is-moment, is-code}
 use Rattle.reports.specs.Fields.{Fields, location-row, occupant-id}
 
+-- a refusal by its number and the values that go with it
+pub record Refusal : Type 0 where
+  pub number : ℕ
+  pub values : List ℕ
+
+-- a field outside its bounds, by its place from 1 to 12
+abbrev pub out-of-bounds : ℕ → Refusal
+out-of-bounds n = record { number = 15; values = n ∷ [] }
+
 -- no bytes
 abbrev pub blank : List ℕ → Bool
 blank bs = eqb (length bs) 0
@@ -57,19 +66,23 @@ location-bounds f =
 abbrev pub bounds : Fields → List Bool
 bounds f = cond (eqb (f .family) 0) (substrate-bounds f) (location-bounds f)
 
--- the value, or the number of the first test that fails, counted from n
-abbrev pub checked : {X : Type 0} → ℕ → List Bool → X → Result X ℕ
+-- the value, or the refusal of the first test that fails, counted from n
+abbrev pub checked : {X : Type 0} → ℕ → List Bool → X → Result X Refusal
 checked n [] x = Ok x
-checked n (t ∷ ts) x = cond t (checked (n + 1) ts x) (Err n)
+checked n (t ∷ ts) x = cond t (checked (n + 1) ts x) (Err (out-of-bounds n))
 
 -- the fields themselves, or the place of the first outside its bounds
-abbrev pub making : Fields → Result Fields ℕ
+abbrev pub making : Fields → Result Fields Refusal
 making f = checked 1 (bounds f) f
 
--- an answer by what it shows, or by the field's number
-abbrev pub told : {X Y : Type 0} → (X → Y) → Result X Field → Result Y ℕ
+-- every field is within its bounds
+abbrev pub Within : Fields → Type 0
+Within f = making f ≡ Ok f
+
+-- an answer by what it shows, or by the refusal
+abbrev pub told : {X Y : Type 0} → (X → Y) → Result X Field → Result Y Refusal
 told see (Ok x) = Ok (see x)
-told see (Err e) = Err (field-number e)
+told see (Err e) = Err (out-of-bounds (field-number e))
 
 -- one field: the value stands for y where the test passes
 abbrev pub Checked : {X Y : Type 0} → (X → Y) → Y → Bool → Field → Result X Field → Type 0

@@ -1,5 +1,5 @@
 -- What times and codes stand for, and which numbers are one.
-use mathlib.Core.Bool.{Bool}
+use mathlib.Core.Bool.{Bool, _&&_}
 use Prim.Native.Nat.{ℕ, _^_}
 use lib.Dec.{leb, ltb}
 use Rattle.std.specs.declared.option.Option.{Option}
@@ -17,9 +17,9 @@ coded c = c .number
 abbrev pub is-moment : ℕ → Bool
 is-moment n = ltb n (2 ^ 40)
 
--- a code is not 0
+-- a code has 16 bits and is not 0
 abbrev pub is-code : ℕ → Bool
-is-code n = leb 1 n
+is-code n = leb 1 n && leb n 65535
 
 abbrev pub time-of : ℕ → Option ℕ
 time-of n = passed (is-moment n) n
