@@ -1,0 +1,4 @@
+pub mod Packing
+pub mod Layout
+pub mod Sizes
+pub mod Standing

@@ -1,0 +1,2 @@
+pub mod cells;
+mod pack;
