@@ -1,3 +1,6 @@
 pub mod Cuts
 pub mod Parts
 pub mod Windows
+pub mod Held
+pub mod Stripping
+pub mod Reading

@@ -2,3 +2,4 @@ pub mod Packing
 pub mod Layout
 pub mod Sizes
 pub mod Standing
+pub mod Reads

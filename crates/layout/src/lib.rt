@@ -1,2 +1,5 @@
 pub mod cells;
+pub mod fault;
+pub mod read;
 mod pack;
+mod unpack;
