@@ -4,3 +4,5 @@ pub mod Windows
 pub mod Held
 pub mod Stripping
 pub mod Reading
+pub mod Sizing
+pub mod Trips

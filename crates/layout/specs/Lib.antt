@@ -3,3 +3,4 @@ pub mod Layout
 pub mod Sizes
 pub mod Standing
 pub mod Reads
+pub mod Laws
