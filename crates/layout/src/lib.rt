@@ -1,5 +1,6 @@
 pub mod cells;
 pub mod fault;
 pub mod read;
+pub mod write;
 mod pack;
 mod unpack;
