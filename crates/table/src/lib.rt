@@ -1,1 +1,3 @@
 pub mod key;
+pub mod row;
+pub mod rows;
