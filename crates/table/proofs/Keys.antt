@@ -13,7 +13,7 @@ use Rattle.std.specs.Orderings.{Decides}
 use Rattle.std.proofs.shelf.Lists.{set-past, getD-past}
 use Rattle.std.proofs.shelf.Tests.{both-ways, cases-bool, cases-lt, cond-true, cond-false, cond-both, false≢true}
 use Rattle.table.specs.Lookup.{bears, count, in-use, lookup, occupied, one-if, placed, position, row-at, row-found, vacant, Once, Stands}
-use Rattle.table.specs.Laws.{First, First-free, Found, Full}
+use Rattle.table.specs.Laws.{First, Found, None-found}
 use Rattle.table.proofs.Places.{None-below, Leads, leads-position, position-leads, count-set, count-most, count-some, count-none}
 
 -- a row in use stands within the table
@@ -41,6 +41,9 @@ module _ {R M : Type 0} (says : R → M) (tells : M → M → Bool) where
   pub lookup-none : (rows : List (Option R)) (m : M) (r : Option ℕ) → Leads (bears says tells m) rows r → lookup says tells rows m ≡ None → r ≡ None
   lookup-none rows m None h e = refl
   lookup-none rows m (Some i) (l, t, h) e = absurd (bears-some m (row-at rows i) t (sym (lookup-leads rows m (Some i) (l, t, h)) ∙ e))
+
+  pub none-leads : (rows : List (Option R)) (m : M) (r : Option ℕ) → Leads (bears says tells m) rows r → None-found says tells m rows r
+  none-leads rows m r h = (lookup-none rows m r h, λ e. lookup-leads rows m r h ∙ ap (row-found rows) e)
 
   -- no row has a key that is looked up in vain
   pub lookup-below : (rows : List (Option R)) (m : M) → lookup says tells rows m ≡ None → (k : ℕ) → bears says tells m (row-at rows k) ≡ false
@@ -92,9 +95,7 @@ module _ {R M : Type 0} (says : R → M) (tells : M → M → Bool) (exact : (a 
   first-leads rows m (Some i) (l, t, h) =
     (bears-stands rows i m t, λ k n s. both-ways (bears says tells m (row-at rows k)) (h k n) (stands-bears rows k m s))
 
-  pub found-leads : (rows : List (Option R)) (m : M) (r : Option ℕ) → Leads (bears says tells m) rows r → Found says m rows (row-found rows r)
-  found-leads rows m None h = first-leads rows m None h
-  found-leads rows m (Some i) h = go (first-leads rows m (Some i) h .0)
-    where
-      go : Stands says rows i m → Found says m rows (row-at rows i)
-      go (r, e, k) = subst (Found says m rows) (sym e) (k, (i, e))
+-- the row at the first position with the key is one with the key
+pub found-first : {R M : Type 0} (says : R → M) (rows : List (Option R)) (m : M) (r : Option ℕ) → First says m rows r → Found says m rows (row-found rows r)
+found-first says rows m None h = h
+found-first says rows m (Some i) ((r, e, k), h) = subst (Found says m rows) (sym e) (k, (i, e))

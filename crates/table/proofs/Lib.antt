@@ -1,3 +1,4 @@
 pub mod Places
 pub mod Frees
 pub mod Keys
+pub mod Changes

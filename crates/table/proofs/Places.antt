@@ -53,6 +53,10 @@ module _ {R : Type 0} (test : Option R → Bool) where
   pub leads-here : (rows : List (Option R)) (i : ℕ) (x : Option R) → i < length rows → x ≡ getD rows i x → None-below rows i → true ≡ test x → Leads rows (Some i)
   leads-here rows i x l e h t = (l, ap test (sym (getD-read rows i x l e None)) ∙ sym t, h)
 
+  -- the end is reached
+  pub leads-end : (rows : List (Option R)) (i : ℕ) → length rows ≤ i → None-below rows i → Leads rows None
+  leads-end rows i l h k n = h k (omega arith)
+
   pub below-here : (rows : List (Option R)) (i : ℕ) (x : Option R) → i < length rows → x ≡ getD rows i x → None-below rows i → false ≡ test x → None-below rows (i + 1)
   below-here rows i x l e h t = below-more _ _ h (ap test (sym (getD-read rows i x l e None)) ∙ sym t)
 

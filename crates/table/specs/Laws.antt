@@ -92,3 +92,7 @@ module _ {R M : Type 0} (says : R → M) (tells : M → M → Bool) where
 
   abbrev pub Vacated-others : ℕ → List (Option R) → List (Option R) → Type 0
   Vacated-others i rows rows′ = (k : M) → Stands says rows i k → Others k rows rows′
+
+  -- no key is there to be looked up
+  abbrev pub Unknown : List (Option R) → Type 0
+  Unknown rows = (m : M) → lookup says tells rows m ≡ None

@@ -1,9 +1,10 @@
 ghost use denote.Ref.{name};
-ghost use lib.ListN.{length, set, replicate};
+ghost use lib.ListN.{length, replicate, set};
 ghost use mathlib.Core.Path.{_≡_};
+ghost use Prim.Native.Nat.{_<_};
 ghost use Rattle.std.specs.declared.option.Option.the-variants.{None, Some};
-ghost use Rattle.table.specs.Lookup.{bears, count, lookup, placed, position, row-at, row-found, vacant, Once};
-ghost use Rattle.table.specs.Laws.{First};
+ghost use Rattle.table.specs.Laws.{Filled, First, First-free, Found, Full, Inserted-once, Inserted-own, Keeps-once, None-found, One-less, One-more, Others, Put-once, Put-others, Put-own, Removed-own, Replaced-once, Replaced-others, Replaced-own, Unknown, Vacated-others, Vacated-own};
+ghost use Rattle.table.specs.Lookup.{bears, in-use, lookup, Once, placed, position, row-at, row-found, vacant};
 use crate::key::Key;
 use crate::row::Row;
 
@@ -31,6 +32,14 @@ fn idle<R: Row>(row: &Option<R>) -> bool
     }
 }
 
+fn free_all<R: Row>(rows: &mut [Option<R>])
+    ensures { λ _. ⌜ now (rows .exit) ≡ replicate (length (now (rows .entry))) None ⌝ }
+{
+    for i in 0..rows.len() {
+        rows[i] = None;
+    }
+}
+
 impl<'a, R: Row> Table<'a, R> {
     // The rows stay as they are.
     pub fn new(rows: &'a mut [Option<R>]) -> Table<'a, R>
@@ -40,16 +49,44 @@ impl<'a, R: Row> Table<'a, R> {
         Table { rows }
     }
 
+    // All rows become free.
+    pub fn cleared(rows: &'a mut [Option<R>]) -> Table<'a, R>
+        ensures rows { λ r. ⌜ now (r .rows) ≡ replicate (length (now (rows .entry))) None ⌝ }
+        ensures lender { λ r. ⌜ name (r .rows) ≡ name (rows .entry) ⌝ }
+        ensures used { λ r. ⌜ in-use (now (r .rows)) ≡ 0 ⌝ }
+        ensures unknown { λ r. ⌜ Unknown (λ row. Key·Key .meaning (R·Row .named row)) (Key·Key .tells) (now (r .rows)) ⌝ }
+        ensures once { λ r. ⌜ Once (λ row. Key·Key .meaning (R·Row .named row)) (Key·Key .tells) (now (r .rows)) ⌝ }
+    {
+        free_all(rows);
+        Table { rows }
+    }
+
     pub fn len(&self) -> usize
         ensures { λ r. ⌜ r ≡ length (now (now (self .entry) .rows)) ⌝ }
     {
         self.rows.len()
     }
 
+    // How many rows are in use.
+    pub fn used(&self) -> usize
+        ensures { λ r. ⌜ r ≡ in-use (now (now (self .entry) .rows)) ⌝ }
+    {
+        let rows = &*self.rows;
+        let mut n = 0;
+        for i in 0..rows.len() {
+            if !idle(&rows[i]) {
+                n += 1;
+            }
+        }
+        n
+    }
+
     // The position of the first row with the key.
     pub fn find(&self, key: &R::Key) -> Option<usize>
         ensures value { λ r. ⌜ r ≡ position (bears (λ row. Key·Key .meaning (R·Row .named row)) (Key·Key .tells) (Key·Key .meaning (now (key .entry)))) (now (now (self .entry) .rows)) ⌝ }
         ensures exact { λ r. ⌜ First (λ row. Key·Key .meaning (R·Row .named row)) (Key·Key .meaning (now (key .entry))) (now (now (self .entry) .rows)) r ⌝ }
+        ensures row { λ r. ⌜ lookup (λ row. Key·Key .meaning (R·Row .named row)) (Key·Key .tells) (now (now (self .entry) .rows)) (Key·Key .meaning (now (key .entry))) ≡ row-found (now (now (self .entry) .rows)) r ⌝ }
+        ensures none { λ r. ⌜ None-found (λ row. Key·Key .meaning (R·Row .named row)) (Key·Key .tells) (Key·Key .meaning (now (key .entry))) (now (now (self .entry) .rows)) r ⌝ }
     {
         let rows = &*self.rows;
         for i in 0..rows.len() {
@@ -60,7 +97,22 @@ impl<'a, R: Row> Table<'a, R> {
         None
     }
 
-    // The row in use at a position.
+    // The position of the first free row.
+    pub fn free(&self) -> Option<usize>
+        ensures value { λ r. ⌜ r ≡ position vacant (now (now (self .entry) .rows)) ⌝ }
+        ensures exact { λ r. ⌜ First-free (now (now (self .entry) .rows)) r ⌝ }
+        ensures full { λ r. ⌜ Full (now (now (self .entry) .rows)) r ⌝ }
+    {
+        let rows = &*self.rows;
+        for i in 0..rows.len() {
+            if idle(&rows[i]) {
+                return Some(i);
+            }
+        }
+        None
+    }
+
+    // The row in use at a position; none if it is free or past the end.
     pub fn get(&self, i: usize) -> Option<R>
         ensures { λ r. ⌜ r ≡ row-at (now (now (self .entry) .rows)) i ⌝ }
     {
@@ -68,13 +120,39 @@ impl<'a, R: Row> Table<'a, R> {
         if i < rows.len() { rows[i] } else { None }
     }
 
-    // A row at a position; past the end nothing changes.
-    pub fn put(&mut self, i: usize, row: R)
-        ensures rows { λ _. ⌜ now (now (self .exit) .rows) ≡ set (now (now (self .entry) .rows)) i (Some row) ⌝ }
+    // The row at a position that was looked for.
+    fn get_found(&self, at: Option<usize>) -> Option<R>
+        ensures { λ r. ⌜ r ≡ row-found (now (now (self .entry) .rows)) at ⌝ }
+    {
+        match at {
+            Some(i) => self.get(i),
+            None => None,
+        }
+    }
+
+    // The first row with the key.
+    pub fn lookup(&self, key: &R::Key) -> Option<R>
+        ensures value { λ r. ⌜ r ≡ lookup (λ row. Key·Key .meaning (R·Row .named row)) (Key·Key .tells) (now (now (self .entry) .rows)) (Key·Key .meaning (now (key .entry))) ⌝ }
+        ensures exact { λ r. ⌜ Found (λ row. Key·Key .meaning (R·Row .named row)) (Key·Key .meaning (now (key .entry))) (now (now (self .entry) .rows)) r ⌝ }
+    {
+        self.get_found(self.find(key))
+    }
+
+    fn write(&mut self, i: usize, row: Option<R>)
+        ensures rows { λ _. ⌜ now (now (self .exit) .rows) ≡ set (now (now (self .entry) .rows)) i row ⌝ }
         ensures lender { λ _. ⌜ name (now (self .exit) .rows) ≡ name (now (self .entry) .rows) ⌝ }
     {
         if i < self.rows.len() {
-            self.rows[i] = Some(row);
+            self.rows[i] = row;
+        }
+    }
+
+    fn place(&mut self, at: Option<usize>, row: Option<R>)
+        ensures rows { λ _. ⌜ now (now (self .exit) .rows) ≡ placed (now (now (self .entry) .rows)) row at ⌝ }
+        ensures lender { λ _. ⌜ name (now (self .exit) .rows) ≡ name (now (self .entry) .rows) ⌝ }
+    {
+        if let Some(i) = at {
+            self.write(i, row);
         }
     }
 }
