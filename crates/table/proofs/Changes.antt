@@ -26,10 +26,10 @@ module _ {R : Type 0} where
     where
       twice : test (row-at rows k) ≡ true → ⊥
       twice b =
-        let other : k ≢ i = omega arith in
-        let long : k < length (set rows i None) = omega (arith, length-set rows i None) in
-        let still : test (row-at (set rows i None) k) ≡ true = ap test (getD-set-other rows i k None None other) ∙ b in
-        omega (arith, count-set test rows i None l, ap one-if t, ap one-if none, count-some test (set rows i None) k long still)
+          let other : k ≢ i = omega arith in
+          let long : k < length (set rows i None) = omega (arith, length-set rows i None) in
+          let still : test (row-at (set rows i None) k) ≡ true = ap test (getD-set-other rows i k None None other) ∙ b in
+          omega (arith, count-set test rows i None l, ap one-if t, ap one-if none, count-some test (set rows i None) k long still)
 
   pub filled : (rows : List (Option R)) (i : ℕ) (row : R) → Filled rows (set rows i (Some row)) i
   filled rows i row l = omega (arith, count-set occupied rows i (Some row) l, one-kind (row-at rows i))
@@ -55,10 +55,11 @@ module _ {R M : Type 0} (says : R → M) (tells : M → M → Bool) where
   Cleared rows = (in-use rows ≡ 0) × Unknown says tells rows × Once says tells rows
 
   pub cleared : (n : ℕ) → Cleared (replicate n None)
-  cleared n =
-    ( count-free occupied refl n
-    , (λ m. lookup-count says tells (replicate n None) m (count-free (bears says tells m) refl n))
-    , (λ m. omega (arith, count-free (bears says tells m) refl n)))
+  cleared n = (
+    count-free occupied refl n,
+    (λ m. lookup-count says tells (replicate n None) m (count-free (bears says tells m) refl n)),
+    (λ m. omega (arith, count-free (bears says tells m) refl n)),
+  )
 
 module _ {R M : Type 0} (says : R → M) (tells : M → M → Bool) (exact : (a b : M) → Decides (tells a b) (a ≡ b)) where
   -- the keys that the new row has were the old row's, or no row's
@@ -67,12 +68,14 @@ module _ {R M : Type 0} (says : R → M) (tells : M → M → Bool) (exact : (a 
     where
       test : Option R → Bool
       test = bears says tells m
+
       past : length rows ≤ i → count test (set rows i x) ≤ 1
       past l = subst (λ ys. count test ys ≤ 1) (sym (set-past rows i x l)) (o m)
+
       inside : i < length rows → count test (set rows i x) ≤ 1
       inside l =
-        let n = count-set test rows i x l in
-        ⊎-elim
+          let n = count-set test rows i x l in
+          ⊎-elim
           (λ t. ⊎-elim (λ b. omega (arith, n, o m, ap one-if t, ap one-if b)) (λ z. omega (arith, n, z, ap one-if t)) (h m t))
           (λ f. omega (arith, n, o m, ap one-if f))
           (cases-bool (test x))
@@ -89,20 +92,20 @@ module _ {R M : Type 0} (says : R → M) (tells : M → M → Bool) (exact : (a 
 
   pub put-own : (rows : List (Option R)) (i : ℕ) (row : R) → Put-own says tells i row rows (set rows i (Some row))
   put-own rows i row s o =
-    let l : i < length rows = within rows i (s .0) (s .1) in
-    lookup-set-first says tells rows i (Some row) (says row) l (once-below (bears says tells (says row)) refl rows i (o (says row)) l (stands-bears says tells exact rows i (says row) s)) (exact (says row) (says row) .1 refl)
+      let l : i < length rows = within rows i (s .0) (s .1) in
+      lookup-set-first says tells rows i (Some row) (says row) l (once-below (bears says tells (says row)) refl rows i (o (says row)) l (stands-bears says tells exact rows i (says row) s)) (exact (says row) (says row) .1 refl)
 
   pub put-others : (rows : List (Option R)) (i : ℕ) (row : R) (k : M) → says row ≡ k → Stands says rows i k → Others says tells k rows (set rows i (Some row))
   put-others rows i row k e s m n = lookup-set-other says tells rows i (Some row) m (stands-not rows i k m n s) (bears-not k m n row e)
 
   pub put-once : (rows : List (Option R)) (i : ℕ) (row : R) (k : M) → says row ≡ k → Stands says rows i k → Keeps-once says tells rows (set rows i (Some row))
   put-once rows i row k e s =
-    once-set rows i (Some row) (λ m t. inl (subst (λ q. bears says tells q (row-at rows i) ≡ true) (sym e ∙ exact (says row) m .0 t) (stands-bears says tells exact rows i k s)))
+      once-set rows i (Some row) (λ m t. inl (subst (λ q. bears says tells q (row-at rows i) ≡ true) (sym e ∙ exact (says row) m .0 t) (stands-bears says tells exact rows i k s)))
 
   pub vacate-own : (rows : List (Option R)) (i : ℕ) → Vacated-own says tells i rows (set rows i None)
   vacate-own rows i k s o =
-    let n = count-set (bears says tells k) rows i None (within rows i (s .0) (s .1)) in
-    lookup-count says tells (set rows i None) k (omega (arith, n, o k, ap one-if (stands-bears says tells exact rows i k s)))
+      let n = count-set (bears says tells k) rows i None (within rows i (s .0) (s .1)) in
+      lookup-count says tells (set rows i None) k (omega (arith, n, o k, ap one-if (stands-bears says tells exact rows i k s)))
 
   pub vacate-others : (rows : List (Option R)) (i : ℕ) → Vacated-others says tells i rows (set rows i None)
   vacate-others rows i k s m n = lookup-set-other says tells rows i None m (stands-not rows i k m n s) refl

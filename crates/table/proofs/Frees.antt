@@ -25,7 +25,7 @@ module _ {R : Type 0} where
   pub first-free-leads : (rows : List (Option R)) (r : Option ℕ) → Leads vacant rows r → First-free rows r
   first-free-leads rows None h = λ k l e. both-ways (vacant (row-at rows k)) (h k l) (ap vacant e)
   first-free-leads rows (Some i) (l, t, h) =
-    (l, vacant-none (row-at rows i) t, λ k n e. both-ways (vacant (row-at rows k)) (h k n) (ap vacant e))
+      (l, vacant-none (row-at rows i) t, λ k n e. both-ways (vacant (row-at rows k)) (h k n) (ap vacant e))
 
   pub all-kinds : (rows : List (Option R)) → in-use rows + count vacant rows ≡ length rows
   all-kinds [] = refl
@@ -34,12 +34,12 @@ module _ {R : Type 0} where
   pub full-leads : (rows : List (Option R)) (r : Option ℕ) → Leads vacant rows r → Full rows r
   full-leads rows None h = ((λ e. omega (arith, all-kinds rows, count-none vacant rows h)), (λ e. refl))
   full-leads rows (Some i) (l, t, h) =
-    ((λ e. let z : _≡_ {A = ℕ} 0 1 = cc in absurd (omega arith)), (λ e. absurd (omega (arith, all-kinds rows, count-some vacant rows i l t))))
+      ((λ e. let z : _≡_ {A = ℕ} 0 1 = cc in absurd (omega arith)), (λ e. absurd (omega (arith, all-kinds rows, count-some vacant rows i l t))))
 
   -- rows that are all free
   pub all-free : (n : ℕ) (rows : List (Option R)) → length rows ≡ n → ((k : ℕ) → k < n → row-at rows k ≡ None) → rows ≡ replicate n None
   all-free n rows e h =
-    same-lists rows (replicate n None) (e ∙ sym (length-replicate n None)) (λ k d l. let m : k < n = omega arith in getD-default rows k d None l ∙ (h k m ∙ sym (getD-replicate n k None d m)))
+      same-lists rows (replicate n None) (e ∙ sym (length-replicate n None)) (λ k d l. let m : k < n = omega arith in getD-default rows k d None l ∙ (h k m ∙ sym (getD-replicate n k None d m)))
 
   pub use-more : (rows : List (Option R)) (i : ℕ) (x : Option R) → i < length rows → x ≡ getD rows i x → in-use (drop i rows) ≡ one-if (occupied x) + in-use (drop (i + 1) rows)
   use-more rows i x l e = at-drop-more in-use rows i x l ∙ ap (λ y. one-if (occupied y) + in-use (drop (i + 1) rows)) (sym e)

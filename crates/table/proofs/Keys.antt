@@ -33,10 +33,10 @@ module _ {R M : Type 0} (says : R → M) (tells : M → M → Bool) where
   lookup-leads [] m None h = refl
   lookup-leads [] m (Some i) (l, t, h) = absurd (omega arith)
   lookup-leads (x ∷ rows) m None h =
-    cond-false (bears says tells m x) _ _ (h 0 (omega arith)) ∙ lookup-leads rows m None (λ k l. h (suc k) (omega arith))
+      cond-false (bears says tells m x) _ _ (h 0 (omega arith)) ∙ lookup-leads rows m None (λ k l. h (suc k) (omega arith))
   lookup-leads (x ∷ rows) m (Some zero) (l, t, h) = cond-true (bears says tells m x) _ _ t
   lookup-leads (x ∷ rows) m (Some (suc i)) (l, t, h) =
-    cond-false (bears says tells m x) _ _ (h 0 (omega arith)) ∙ lookup-leads rows m (Some i) (omega arith, t, λ k n. h (suc k) (omega arith))
+      cond-false (bears says tells m x) _ _ (h 0 (omega arith)) ∙ lookup-leads rows m (Some i) (omega arith, t, λ k n. h (suc k) (omega arith))
 
   pub lookup-none : (rows : List (Option R)) (m : M) (r : Option ℕ) → Leads (bears says tells m) rows r → lookup says tells rows m ≡ None → r ≡ None
   lookup-none rows m None h e = refl
@@ -48,10 +48,10 @@ module _ {R M : Type 0} (says : R → M) (tells : M → M → Bool) where
   -- no row has a key that is looked up in vain
   pub lookup-below : (rows : List (Option R)) (m : M) → lookup says tells rows m ≡ None → (k : ℕ) → bears says tells m (row-at rows k) ≡ false
   lookup-below rows m e k =
-    let test : Option R → Bool = bears says tells m in
-    let p : position test rows ≡ None = lookup-none rows m (position test rows) (leads-position test rows) e in
-    let h : Leads test rows None = subst (Leads test rows) p (leads-position test rows) in
-    ⊎-elim (h k) (λ past. ap test (getD-past rows k None past)) (cases-lt k (length rows))
+      let test : Option R → Bool = bears says tells m in
+      let p : position test rows ≡ None = lookup-none rows m (position test rows) (leads-position test rows) e in
+      let h : Leads test rows None = subst (Leads test rows) p (leads-position test rows) in
+      ⊎-elim (h k) (λ past. ap test (getD-past rows k None past)) (cases-lt k (length rows))
 
   pub lookup-set-other : (rows : List (Option R)) (i : ℕ) (x : Option R) (m : M) → bears says tells m (row-at rows i) ≡ false → bears says tells m x ≡ false → lookup says tells (set rows i x) m ≡ lookup says tells rows m
   lookup-set-other [] i x m o n = refl
@@ -62,7 +62,7 @@ module _ {R M : Type 0} (says : R → M) (tells : M → M → Bool) where
   lookup-set-first [] i x m l h t = absurd (omega arith)
   lookup-set-first (y ∷ rows) zero x m l h t = cond-true (bears says tells m x) _ _ t
   lookup-set-first (y ∷ rows) (suc i) x m l h t =
-    cond-false (bears says tells m y) _ _ (h 0 (omega arith)) ∙ lookup-set-first rows i x m (omega arith) (λ k n. h (suc k) (omega arith)) t
+      cond-false (bears says tells m y) _ _ (h 0 (omega arith)) ∙ lookup-set-first rows i x m (omega arith) (λ k n. h (suc k) (omega arith)) t
 
   -- a key that no row counts for is looked up in vain
   pub lookup-count : (rows : List (Option R)) (m : M) → count (bears says tells m) rows ≡ 0 → lookup says tells rows m ≡ None
@@ -70,6 +70,7 @@ module _ {R M : Type 0} (says : R → M) (tells : M → M → Bool) where
     where
       test : Option R → Bool
       test = bears says tells m
+
       go : (r : Option ℕ) → Leads test rows r → lookup says tells rows m ≡ None
       go None h = lookup-leads rows m None h
       go (Some i) (l, t, h) = absurd (omega (arith, count-some test rows i l t))
@@ -91,9 +92,9 @@ module _ {R M : Type 0} (says : R → M) (tells : M → M → Bool) (exact : (a 
 
   pub first-leads : (rows : List (Option R)) (m : M) (r : Option ℕ) → Leads (bears says tells m) rows r → First says m rows r
   first-leads rows m None h =
-    λ k s. both-ways (bears says tells m (row-at rows k)) (h k (within rows k (s .0) (s .1))) (stands-bears rows k m s)
+      λ k s. both-ways (bears says tells m (row-at rows k)) (h k (within rows k (s .0) (s .1))) (stands-bears rows k m s)
   first-leads rows m (Some i) (l, t, h) =
-    (bears-stands rows i m t, λ k n s. both-ways (bears says tells m (row-at rows k)) (h k n) (stands-bears rows k m s))
+      (bears-stands rows i m t, λ k n s. both-ways (bears says tells m (row-at rows k)) (h k n) (stands-bears rows k m s))
 
 -- the row at the first position with the key is one with the key
 pub found-first : {R M : Type 0} (says : R → M) (rows : List (Option R)) (m : M) (r : Option ℕ) → First says m rows r → Found says m rows (row-found rows r)

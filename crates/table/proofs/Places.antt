@@ -34,10 +34,10 @@ module _ {R : Type 0} (test : Option R → Bool) where
   position-leads [] None h = refl
   position-leads [] (Some i) (l, t, h) = absurd (omega arith)
   position-leads (x ∷ rows) None h =
-    sym (cond-false (test x) _ _ (h 0 (omega arith)) ∙ ap later (sym (position-leads rows None (below-tail x rows (length rows) h))))
+      sym (cond-false (test x) _ _ (h 0 (omega arith)) ∙ ap later (sym (position-leads rows None (below-tail x rows (length rows) h))))
   position-leads (x ∷ rows) (Some zero) (l, t, h) = sym (cond-true (test x) _ _ t)
   position-leads (x ∷ rows) (Some (suc i)) (l, t, h) =
-    sym (cond-false (test x) _ _ (h 0 (omega arith)) ∙ ap later (sym (position-leads rows (Some i) (omega arith, t, below-tail x rows i h))))
+      sym (cond-false (test x) _ _ (h 0 (omega arith)) ∙ ap later (sym (position-leads rows (Some i) (omega arith, t, below-tail x rows i h))))
 
   leads-later : (x : Option R) (rows : List (Option R)) (r : Option ℕ) → test x ≡ false → Leads rows r → Leads (x ∷ rows) (later r)
   leads-later x rows None e h = below-cons x rows (length rows) e h
@@ -47,7 +47,7 @@ module _ {R : Type 0} (test : Option R → Bool) where
   pub leads-position : (rows : List (Option R)) → Leads rows (position test rows)
   leads-position [] = λ k l. absurd (omega arith)
   leads-position (x ∷ rows) =
-    cond-both (test x) (Some 0) (later (position test rows)) (Leads (x ∷ rows)) (λ e. (omega arith, e, λ k l. absurd (omega arith))) (λ e. leads-later x rows (position test rows) e (leads-position rows))
+      cond-both (test x) (Some 0) (later (position test rows)) (Leads (x ∷ rows)) (λ e. (omega arith, e, λ k l. absurd (omega arith))) (λ e. leads-later x rows (position test rows) e (leads-position rows))
 
   -- a row that was read passes or not as the row at its place does
   pub leads-here : (rows : List (Option R)) (i : ℕ) (x : Option R) → i < length rows → x ≡ getD rows i x → None-below rows i → true ≡ test x → Leads rows (Some i)

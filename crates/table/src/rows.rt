@@ -1,12 +1,13 @@
 ghost use denote.Ref.{name};
-ghost use lib.ListN.{length, replicate, set};
+ghost use lib.ListN.{length, replicate};
 ghost use mathlib.Core.Path.{_≡_};
-ghost use Prim.Native.Nat.{_<_};
 ghost use Rattle.std.specs.declared.option.Option.the-variants.{None, Some};
-ghost use Rattle.table.specs.Laws.{Filled, First, First-free, Found, Full, Inserted-once, Inserted-own, Keeps-once, None-found, One-less, One-more, Others, Put-once, Put-others, Put-own, Removed-own, Replaced-once, Replaced-others, Replaced-own, Unknown, Vacated-others, Vacated-own};
-ghost use Rattle.table.specs.Lookup.{bears, in-use, lookup, Once, placed, position, row-at, row-found, vacant};
+ghost use Rattle.table.specs.Laws.{First, First-free, Found, Full, None-found, Unknown};
+ghost use Rattle.table.specs.Lookup.{bears, in-use, lookup, Once, position, row-at, row-found, vacant};
 use crate::key::Key;
 use crate::row::Row;
+
+pub mod change;
 
 // A table over rows that are lent to it: a free row is a `None`.
 #[derive(Drop)]
@@ -136,23 +137,5 @@ impl<'a, R: Row> Table<'a, R> {
         ensures exact { λ r. ⌜ Found (λ row. Key·Key .meaning (R·Row .named row)) (Key·Key .meaning (now (key .entry))) (now (now (self .entry) .rows)) r ⌝ }
     {
         self.get_found(self.find(key))
-    }
-
-    fn write(&mut self, i: usize, row: Option<R>)
-        ensures rows { λ _. ⌜ now (now (self .exit) .rows) ≡ set (now (now (self .entry) .rows)) i row ⌝ }
-        ensures lender { λ _. ⌜ name (now (self .exit) .rows) ≡ name (now (self .entry) .rows) ⌝ }
-    {
-        if i < self.rows.len() {
-            self.rows[i] = row;
-        }
-    }
-
-    fn place(&mut self, at: Option<usize>, row: Option<R>)
-        ensures rows { λ _. ⌜ now (now (self .exit) .rows) ≡ placed (now (now (self .entry) .rows)) row at ⌝ }
-        ensures lender { λ _. ⌜ name (now (self .exit) .rows) ≡ name (now (self .entry) .rows) ⌝ }
-    {
-        if let Some(i) = at {
-            self.write(i, row);
-        }
     }
 }

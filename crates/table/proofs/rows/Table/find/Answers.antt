@@ -11,12 +11,12 @@ returns-then-holds g c =
     let m = g .Key·Key .meaning (c .args .key .now) in
     let rows = c .args .self .now .rows .now in
     let h = leads-here (bears says tells m) rows (c .loop-i .i) (c .index-rows-i .result) (c .loop-i-test .taken) (c .index-rows-i .is) (c .loop-i .inv) (c .if-holds .ensures tt) in
-    record
-      { value = position-leads (bears says tells m) rows (Some (c .loop-i .i)) h
-      ; exact = first-leads says tells (g .Key·Key·met .exact) rows m (Some (c .loop-i .i)) h
-      ; row = lookup-leads says tells rows m (Some (c .loop-i .i)) h
-      ; none = none-leads says tells rows m (Some (c .loop-i .i)) h
-      }
+    record {
+      value = position-leads (bears says tells m) rows (Some (c .loop-i .i)) h;
+      exact = first-leads says tells (g .Key·Key·met .exact) rows m (Some (c .loop-i .i)) h;
+      row = lookup-leads says tells rows m (Some (c .loop-i .i)) h;
+      none = none-leads says tells rows m (Some (c .loop-i .i)) h;
+    }
 
 pub returns : need.returns
 returns g c =
@@ -25,9 +25,9 @@ returns g c =
     let m = g .Key·Key .meaning (c .args .key .now) in
     let rows = c .args .self .now .rows .now in
     let h = leads-end (bears says tells m) rows (c .loop-i .i) (c .loop-i-test .left) (c .loop-i .inv) in
-    record
-      { value = position-leads (bears says tells m) rows None h
-      ; exact = first-leads says tells (g .Key·Key·met .exact) rows m None h
-      ; row = lookup-leads says tells rows m None h
-      ; none = none-leads says tells rows m None h
-      }
+    record {
+      value = position-leads (bears says tells m) rows None h;
+      exact = first-leads says tells (g .Key·Key·met .exact) rows m None h;
+      row = lookup-leads says tells rows m None h;
+      none = none-leads says tells rows m None h;
+    }

@@ -8,7 +8,7 @@ returns g c =
     let says = λ (row : g .R .Denot). g .Key·Key .meaning (g .R·Row .named row) in
     let m = g .Key·Key .meaning (c .args .key .now) in
     let rows = c .args .self .now .rows .now in
-    record
-      { value = c .get-found .ensures ∙ sym (c .find .ensures .row)
-      ; exact = subst (Found says m rows) (sym (c .get-found .ensures)) (found-first says rows m (c .find .result) (c .find .ensures .exact))
-      }
+    record {
+      value = c .get-found .ensures ∙ sym (c .find .ensures .row);
+      exact = subst (Found says m rows) (sym (c .get-found .ensures)) (found-first says rows m (c .find .result) (c .find .ensures .exact));
+    }
