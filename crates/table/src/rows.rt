@@ -3,7 +3,7 @@ ghost use lib.ListN.{length, replicate};
 ghost use mathlib.Core.Path.{_≡_};
 ghost use Rattle.std.specs.declared.option.Option.the-variants.{None, Some};
 ghost use Rattle.table.specs.Laws.{First, First-free, Found, Full, None-found, Unknown};
-ghost use Rattle.table.specs.Lookup.{bears, in-use, lookup, Once, position, row-at, row-found, vacant};
+ghost use Rattle.table.specs.Lookup.{bears, in-use, lookup, occupied, Once, one-if, position, row-at, row-found, vacant};
 use crate::key::Key;
 use crate::row::Row;
 
@@ -33,6 +33,15 @@ fn idle<R: Row>(row: &Option<R>) -> bool
     }
 }
 
+fn tally<R: Row>(row: &Option<R>) -> usize
+    ensures { λ r. ⌜ r ≡ one-if (occupied (now (row .entry))) ⌝ }
+{
+    match row {
+        Some(_) => 1,
+        None => 0,
+    }
+}
+
 fn free_all<R: Row>(rows: &mut [Option<R>])
     ensures { λ _. ⌜ now (rows .exit) ≡ replicate (length (now (rows .entry))) None ⌝ }
 {
@@ -50,6 +59,14 @@ impl<'a, R: Row> Table<'a, R> {
         Table { rows }
     }
 
+    fn freed(rows: &'a mut [Option<R>]) -> Table<'a, R>
+        ensures rows { λ r. ⌜ now (r .rows) ≡ replicate (length (now (rows .entry))) None ⌝ }
+        ensures lender { λ r. ⌜ name (r .rows) ≡ name (rows .entry) ⌝ }
+    {
+        free_all(rows);
+        Table::new(rows)
+    }
+
     // All rows become free.
     pub fn cleared(rows: &'a mut [Option<R>]) -> Table<'a, R>
         ensures rows { λ r. ⌜ now (r .rows) ≡ replicate (length (now (rows .entry))) None ⌝ }
@@ -58,8 +75,7 @@ impl<'a, R: Row> Table<'a, R> {
         ensures unknown { λ r. ⌜ Unknown (λ row. Key·Key .meaning (R·Row .named row)) (Key·Key .tells) (now (r .rows)) ⌝ }
         ensures once { λ r. ⌜ Once (λ row. Key·Key .meaning (R·Row .named row)) (Key·Key .tells) (now (r .rows)) ⌝ }
     {
-        free_all(rows);
-        Table { rows }
+        Table::freed(rows)
     }
 
     pub fn len(&self) -> usize
@@ -75,9 +91,7 @@ impl<'a, R: Row> Table<'a, R> {
         let rows = &*self.rows;
         let mut n = 0;
         for i in 0..rows.len() {
-            if !idle(&rows[i]) {
-                n += 1;
-            }
+            n += tally(&rows[i]);
         }
         n
     }

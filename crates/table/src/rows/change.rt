@@ -47,9 +47,9 @@ impl<'a, R: Row> Table<'a, R> {
         ensures rows { λ r. ⌜ now (now (self .exit) .rows) ≡ placed (now (now (self .entry) .rows)) (Some row) r ⌝ }
         ensures lender { λ _. ⌜ name (now (self .exit) .rows) ≡ name (now (self .entry) .rows) ⌝ }
     {
-        let at = self.free();
-        self.place(at, Some(row));
-        at
+        let free = self.free();
+        self.place(free, Some(row));
+        free
     }
 
     fn fill_found(&mut self, key: &R::Key, row: R) -> Option<usize>
@@ -57,9 +57,9 @@ impl<'a, R: Row> Table<'a, R> {
         ensures rows { λ r. ⌜ now (now (self .exit) .rows) ≡ placed (now (now (self .entry) .rows)) (Some row) r ⌝ }
         ensures lender { λ _. ⌜ name (now (self .exit) .rows) ≡ name (now (self .entry) .rows) ⌝ }
     {
-        let at = self.find(key);
-        self.place(at, Some(row));
-        at
+        let found = self.find(key);
+        self.place(found, Some(row));
+        found
     }
 
     fn free_found(&mut self, key: &R::Key) -> Option<R>
