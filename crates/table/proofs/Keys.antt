@@ -13,7 +13,7 @@ use Rattle.std.specs.Orderings.{Decides}
 use Rattle.std.proofs.shelf.Lists.{set-past, getD-past}
 use Rattle.std.proofs.shelf.Tests.{both-ways, cases-bool, cases-lt, cond-true, cond-false, cond-both, false≢true}
 use Rattle.table.specs.Lookup.{bears, count, in-use, lookup, occupied, one-if, placed, position, row-at, row-found, vacant, Once, Stands}
-use Rattle.table.specs.Laws.{First, Found, None-found}
+use Rattle.table.specs.Laws.{First, Found, None-found, Others}
 use Rattle.table.proofs.Places.{None-below, Leads, leads-position, position-leads, count-set, count-most, count-some, count-none}
 
 -- a row in use stands within the table
@@ -97,6 +97,14 @@ module _ {R M : Type 0} (says : R → M) (tells : M → M → Bool) (exact : (a 
       (bears-stands rows i m t, λ k n s. both-ways (bears says tells m (row-at rows k)) (h k n) (stands-bears rows k m s))
 
 -- the row at the first position with the key is one with the key
-pub found-first : {R M : Type 0} (says : R → M) (rows : List (Option R)) (m : M) (r : Option ℕ) → First says m rows r → Found says m rows (row-found rows r)
-found-first says rows m None h = h
-found-first says rows m (Some i) ((r, e, k), h) = subst (Found says m rows) (sym e) (k, (i, e))
+pub found-first : {R M : Type 0} (says : R → M) (rows : List (Option R)) (m : M) (r : Option ℕ) (x : Option R) → x ≡ row-found rows r → First says m rows r → Found says m rows x
+found-first says rows m None x p h = subst (Found says m rows) (sym p) h
+found-first says rows m (Some i) x p ((r, e, k), h) = subst (Found says m rows) (sym (p ∙ e)) (k, (i, e))
+
+-- where only the key k is looked up anew, the look-up as a function
+pub lookup-updated : {R M : Type 0} (says : R → M) (tells : M → M → Bool) → ((a b : M) → Decides (tells a b) (a ≡ b)) → (rows rows′ : List (Option R)) (k : M) (x : Option R) → lookup says tells rows′ k ≡ x → Others says tells k rows rows′ → lookup says tells rows′ ≡ (λ m. cond (tells m k) x (lookup says tells rows m))
+lookup-updated {R} {M} says tells exact rows rows′ k x own others = λ i m. each m i
+  where
+    each : (m : M) → lookup says tells rows′ m ≡ cond (tells m k) x (lookup says tells rows m)
+    each m =
+        cond-both (tells m k) x (lookup says tells rows m) (λ y. lookup says tells rows′ m ≡ y) (λ t. ap (lookup says tells rows′) (exact m k .0 t) ∙ own) (λ f. others m (λ e. both-ways (tells m k) f (exact m k .1 e)))
