@@ -1,11 +1,11 @@
 -- The laws of each call of a table, together, for rows′ that the call makes of rows.
 use mathlib.Core.Path.{_≡_, refl, sym, ap, subst, _∙_}
-use mathlib.Core.Bool.{Bool, true, false}
+use mathlib.Core.Bool.{Bool}
 use mathlib.Core.List.{List}
 use mathlib.Core.Logic.{inr}
-use Prim.Native.Nat.{ℕ, _+_, _<_}
+use Prim.Native.Nat.{ℕ}
 use native.Mathlib.Omega.{arith}
-use lib.ListN.{length, set}
+use lib.ListN.{set}
 use Rattle.std.specs.declared.option.Option.{Option}
 use Rattle.std.specs.declared.option.Option.the-variants.{Some, None}
 use Rattle.std.specs.Orderings.{Decides}
@@ -14,7 +14,7 @@ use Rattle.table.specs.Lookup.{bears, count, in-use, lookup, one-if, placed, p
 use Rattle.table.specs.Laws.{Filled, Inserted-once, Inserted-own, Keeps-once, One-less, One-more, Others, Put-once, Put-others, Put-own, Removed-own, Replaced-once, Replaced-others, Replaced-own, Vacated-others, Vacated-own}
 use Rattle.table.proofs.Places.{Leads, leads-position, count-none}
 use Rattle.table.proofs.Frees.{vacant-none}
-use Rattle.table.proofs.Keys.{bears-other, bears-stands, lookup-below, lookup-leads, lookup-set-first, lookup-set-other, within}
+use Rattle.table.proofs.Keys.{bears-other, bears-stands, lookup-below, lookup-leads, lookup-set-first, lookup-set-other}
 use Rattle.table.proofs.Changes.{emptied, filled, once-set, one-more, put-once, put-others, put-own, vacate-once, vacate-others, vacate-own}
 
 module _ {R M : Type 0} (says : R → M) (tells : M → M → Bool) (exact : (a b : M) → Decides (tells a b) (a ≡ b)) (rows : List (Option R)) where

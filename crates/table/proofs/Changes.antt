@@ -1,23 +1,22 @@
 -- The laws of a change of one row: what a row at a position gives way to, and what that does to look-ups and counts.
 use mathlib.Core.Path.{_≡_, refl, sym, ap, subst, _∙_}
-use mathlib.Core.Bool.{Bool, true, false, cond}
-use mathlib.Core.List.{List, [], _∷_}
-use mathlib.Core.Logic.{_⊎_, _≢_, inl, inr, ⊎-elim}
-use Prim.Native.Nat.{ℕ, zero, suc, _+_, _<_, _≤_}
+use mathlib.Core.Bool.{Bool, true, false}
+use mathlib.Core.List.{List}
+use mathlib.Core.Logic.{_⊎_, _≢_, inl, ⊎-elim}
+use Prim.Native.Nat.{ℕ, zero, suc, _<_, _≤_}
 use native.Mathlib.Omega.{arith}
-use lib.ListN.{length, getD, replicate, set}
+use lib.ListN.{length, replicate, set}
 use lib.Seq.{getD-set-other}
 use Rattle.std.specs.declared.option.Option.{Option}
 use Rattle.std.specs.declared.option.Option.the-variants.{Some, None}
-use Rattle.std.specs.Options.{isSome}
 use Rattle.std.specs.Orderings.{Decides}
 use Rattle.std.proofs.shelf.Lists.{length-set, set-getD, set-past}
-use Rattle.std.proofs.shelf.Tests.{both-ways, cases-bool, cases-lt, false≢true}
-use Rattle.table.specs.Lookup.{bears, count, in-use, lookup, occupied, one-if, placed, position, row-at, row-found, vacant, Once, Stands}
-use Rattle.table.specs.Laws.{Filled, One-less, One-more, Inserted-once, Inserted-own, Keeps-once, Others, Put-once, Put-others, Put-own, Removed-own, Replaced-once, Replaced-others, Replaced-own, Unknown, Vacated-others, Vacated-own}
-use Rattle.table.proofs.Places.{None-below, Leads, leads-position, position-leads, count-set, count-most, count-some, count-none}
-use Rattle.table.proofs.Frees.{one-kind, vacant-none}
-use Rattle.table.proofs.Keys.{bears-other, bears-stands, lookup-below, lookup-count, lookup-leads, lookup-set-first, lookup-set-other, stands-bears, within}
+use Rattle.std.proofs.shelf.Tests.{cases-bool, cases-lt, false≢true}
+use Rattle.table.specs.Lookup.{bears, count, in-use, occupied, one-if, placed, position, row-at, vacant, Once, Stands}
+use Rattle.table.specs.Laws.{Filled, One-less, One-more, Keeps-once, Others, Put-own, Unknown, Vacated-others, Vacated-own}
+use Rattle.table.proofs.Places.{None-below, Leads, count-set, count-some}
+use Rattle.table.proofs.Frees.{one-kind}
+use Rattle.table.proofs.Keys.{bears-other, lookup-count, lookup-set-first, lookup-set-other, stands-bears, within}
 
 module _ {R : Type 0} where
   -- a test that no free row passes, and that at most one row passes, is passed by none before the one

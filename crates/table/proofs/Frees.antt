@@ -1,17 +1,17 @@
 -- Free rows and rows in use.
-use mathlib.Core.Path.{_≡_, refl, sym, ap, subst, _∙_}
-use mathlib.Core.Bool.{Bool, true, false, cond}
+use mathlib.Core.Path.{_≡_, refl, sym, ap, _∙_}
+use mathlib.Core.Bool.{true}
 use mathlib.Core.List.{List, [], _∷_}
-use Prim.Native.Nat.{ℕ, zero, suc, _+_, _<_, _≤_}
+use Prim.Native.Nat.{ℕ, _+_, _<_, _≤_}
 use native.Mathlib.Omega.{arith}
-use lib.ListN.{length, getD, set, drop, replicate}
+use lib.ListN.{length, getD, drop, replicate}
 use Rattle.std.specs.declared.option.Option.{Option}
 use Rattle.std.specs.declared.option.Option.the-variants.{Some, None}
 use Rattle.std.proofs.shelf.Tests.{both-ways, false≢true}
 use Rattle.std.proofs.shelf.Lists.{at-drop-all, at-drop-more, getD-default, getD-replicate, length-replicate, same-lists}
-use Rattle.table.specs.Lookup.{bears, count, in-use, occupied, one-if, row-at, vacant}
+use Rattle.table.specs.Lookup.{count, in-use, occupied, one-if, row-at, vacant}
 use Rattle.table.specs.Laws.{First-free, Full}
-use Rattle.table.proofs.Places.{None-below, Leads, count-none, count-some}
+use Rattle.table.proofs.Places.{Leads, count-none, count-some}
 
 module _ {R : Type 0} where
   pub vacant-none : (x : Option R) → vacant x ≡ true → x ≡ None

@@ -2,19 +2,18 @@
 use mathlib.Core.Path.{_≡_, refl, sym, ap, subst, _∙_}
 use mathlib.Core.Bool.{Bool, true, false, cond}
 use mathlib.Core.List.{List, [], _∷_}
-use mathlib.Core.Logic.{_⊎_, inl, inr, ⊎-elim}
-use Prim.Native.Nat.{ℕ, zero, suc, _+_, _<_, _≤_}
+use mathlib.Core.Logic.{⊎-elim}
+use Prim.Native.Nat.{ℕ, zero, suc, _<_}
 use native.Mathlib.Omega.{arith}
-use lib.ListN.{length, getD, set}
+use lib.ListN.{length, set}
 use Rattle.std.specs.declared.option.Option.{Option}
 use Rattle.std.specs.declared.option.Option.the-variants.{Some, None}
-use Rattle.std.specs.Options.{isSome}
 use Rattle.std.specs.Orderings.{Decides}
-use Rattle.std.proofs.shelf.Lists.{set-past, getD-past}
+use Rattle.std.proofs.shelf.Lists.{getD-past}
 use Rattle.std.proofs.shelf.Tests.{both-ways, cases-bool, cases-lt, cond-true, cond-false, cond-both, false≢true}
-use Rattle.table.specs.Lookup.{bears, count, in-use, lookup, occupied, one-if, placed, position, row-at, row-found, vacant, Once, Stands}
+use Rattle.table.specs.Lookup.{bears, count, lookup, position, row-at, row-found, Stands}
 use Rattle.table.specs.Laws.{First, Found, None-found, Others}
-use Rattle.table.proofs.Places.{None-below, Leads, leads-position, position-leads, count-set, count-most, count-some, count-none}
+use Rattle.table.proofs.Places.{None-below, Leads, leads-position, count-some}
 
 -- a row in use stands within the table
 pub within : {R : Type 0} (rows : List (Option R)) (i : ℕ) (r : R) → row-at rows i ≡ Some r → i < length rows

@@ -1,6 +1,6 @@
 -- Tests on the rows of a table, by position: the first that passes, and how many pass.
-use mathlib.Core.Path.{_≡_, refl, sym, ap, subst, _∙_}
-use mathlib.Core.Bool.{Bool, true, false, cond}
+use mathlib.Core.Path.{_≡_, refl, sym, ap, _∙_}
+use mathlib.Core.Bool.{Bool, true, false}
 use mathlib.Core.List.{List, [], _∷_}
 use Prim.Native.Nat.{ℕ, zero, suc, _+_, _<_, _≤_}
 use native.Mathlib.Omega.{arith}
@@ -9,8 +9,8 @@ use lib.ListN.{length, getD, set}
 use Rattle.std.specs.declared.option.Option.{Option}
 use Rattle.std.specs.declared.option.Option.the-variants.{Some, None}
 use Rattle.std.proofs.shelf.Tests.{cond-true, cond-false, cond-both}
-use Rattle.std.proofs.shelf.Lists.{getD-read}
-use Rattle.table.specs.Lookup.{count, later, one-if, position, row-at}
+use Rattle.std.proofs.shelf.Lists.{getD-read, length-set}
+use Rattle.table.specs.Lookup.{count, later, one-if, placed, position, row-at}
 
 module _ {R : Type 0} (test : Option R → Bool) where
   -- no row below i passes
@@ -78,3 +78,7 @@ module _ {R : Type 0} (test : Option R → Bool) where
   pub count-none : (rows : List (Option R)) → None-below rows (length rows) → count test rows ≡ 0
   count-none [] h = refl
   count-none (x ∷ rows) h = omega (arith, ap one-if (h 0 (omega arith)), count-none rows (below-tail x rows (length rows) h))
+
+pub length-placed : {X : Type 0} (xs : List X) (x : X) (r : Option ℕ) → length (placed xs x r) ≡ length xs
+length-placed xs x None = refl
+length-placed xs x (Some i) = length-set xs i x

@@ -7,7 +7,7 @@ use lib.ListN.{length}
 use Rattle.std.specs.declared.option.Option.{Option}
 use Rattle.std.specs.declared.option.Option.the-variants.{Some, None}
 use Rattle.std.specs.Options.{isSome}
-use Rattle.table.specs.Lookup.{bears, in-use, lookup, occupied, one-if, position, row-at, vacant, Once, Stands}
+use Rattle.table.specs.Lookup.{in-use, lookup, one-if, position, row-at, vacant, Once, Stands}
 
 -- the answer is the position of the first free row, and none if there is none
 abbrev pub First-free : {R : Type 0} → List (Option R) → Option ℕ → Type 0

@@ -1,6 +1,6 @@
 use Rattle.std.specs.declared.option.Option.the-variants.{Some, None}
 use Rattle.table.specs.Lookup.{bears}
-use Rattle.table.proofs.Places.{below-here, leads-end, leads-here, position-leads}
+use Rattle.table.proofs.Places.{leads-end, leads-here, position-leads}
 use Rattle.table.proofs.Keys.{first-leads, lookup-leads, none-leads}
 use Rattle.table.proofs.rows.Table.find.Needs as need
 
