@@ -1,5 +1,3 @@
 pub mod key;
 pub mod row;
 pub mod rows;
-#[cfg(test)]
-mod tests;
