@@ -44,8 +44,8 @@ length-stored bs n h e =
     let l : length bs ≡ length (take n bs ++ replicate (16 - length (take n bs)) 0) = ap length e in
     omega arith
 
-pub text-length : (t : Text) → length (spelled t) ≡ t .len
-text-length t = let l = length-stored (t .bytes) (t .len) (t .fits) (t .cleared) in length-take-le (t .len) (t .bytes) (omega arith)
+pub text-length : (t : Text) → length (spelled t) ≡ t .size
+text-length t = let l = length-stored (t .bytes) (t .size) (t .fits) (t .cleared) in length-take-le (t .size) (t .bytes) (omega arith)
 
 -- what is stored is formed as it should be
 pub text-formed : (t : Text) → formed (spelled t) ≡ true

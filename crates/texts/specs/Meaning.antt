@@ -6,7 +6,7 @@ use Rattle.texts.specs.declared.text.Text.{Text}
 use Rattle.texts.specs.declared.id.Id.{Id}
 
 abbrev pub spelled : Text → List ℕ
-spelled t = take (t .len) (t .bytes)
+spelled t = take (t .size) (t .bytes)
 
 abbrev pub called : Id → List ℕ
 called i = spelled (i .text)

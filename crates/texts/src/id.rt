@@ -7,5 +7,5 @@ pub mod naming;
 #[derive(Clone, Copy)]
 pub struct Id {
     text: Text,
-    ghost some: { 1 ≤ text .len },
+    ghost some: { 1 ≤ text .size },
 }

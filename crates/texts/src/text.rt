@@ -11,8 +11,8 @@ pub mod printing;
 #[derive(Clone, Copy)]
 pub struct Text {
     bytes: [u8; 16],
-    len: usize,
-    ghost fits: { len ≤ 16 },
-    ghost used: { graphic-all (take len bytes) ≡ true },
-    ghost cleared: { bytes ≡ padded (take len bytes) },
+    size: usize,
+    ghost fits: { size ≤ 16 },
+    ghost used: { graphic-all (take size bytes) ≡ true },
+    ghost cleared: { bytes ≡ padded (take size bytes) },
 }

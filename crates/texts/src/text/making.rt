@@ -30,7 +30,7 @@ impl Text {
             }
             bytes[i] = b;
         }
-        Some(Text { bytes, len: n })
+        Some(Text { bytes, size: n })
     }
 
     // The text of no bytes.
@@ -39,14 +39,14 @@ impl Text {
     {
         Text {
             bytes: [0; 16],
-            len: 0,
+            size: 0,
         }
     }
 
     pub fn len(&self) -> usize
         ensures { λ r. ⌜ r ≡ length (spelled (now (self .entry))) ⌝ }
     {
-        self.len
+        self.size
     }
 
     pub fn is_empty(&self) -> bool
@@ -63,6 +63,13 @@ impl Text {
     }
 }
 
+// Whether two texts are the same, by length and bytes.
+fn same_text(a: &Text, b: &Text) -> bool
+    ensures { λ r. ⌜ r ≡ sameBytes (spelled (now (a .entry))) (spelled (now (b .entry))) ⌝ }
+{
+    a.size == b.size && a.bytes == b.bytes
+}
+
 pub impl Key for Text as TextKey {
     ghost Meaning = { List ℕ };
 
@@ -71,6 +78,6 @@ pub impl Key for Text as TextKey {
     ghost tells = { sameBytes };
 
     fn same(&self, other: &Text) -> bool {
-        self.len == other.len && self.bytes == other.bytes
+        same_text(self, other)
     }
 }

@@ -8,7 +8,7 @@ impl Text {
     pub fn as_str(&self) -> &str
         ensures { λ r. ⌜ now r ≡ spelled (now (self .entry)) ⌝ }
     {
-        match std::str::from_utf8(&self.bytes[0..self.len]) {
+        match std::str::from_utf8(&self.bytes[0..self.size]) {
             Ok(s) => s,
             Err(_) => unreachable(),
         }

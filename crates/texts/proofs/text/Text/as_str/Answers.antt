@@ -6,4 +6,4 @@ use Rattle.texts.proofs.text.Text.as_str.Needs as need
 pub unreachable-requires : need.unreachable-requires
 unreachable-requires c κs =
     let t = c .args .self .now in
-    c .in-Err .ensures tt .cases .0 (rw (sub-zero (t .len)) (utf8-from-ascii _ (graphic-ascii _ (t .used))))
+    c .in-Err .ensures tt .cases .0 (rw (sub-zero (t .size)) (utf8-from-ascii _ (graphic-ascii _ (t .used))))
