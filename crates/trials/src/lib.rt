@@ -7,5 +7,6 @@ mod raws;
 mod sinking;
 #[cfg(test)]
 mod tables;
+pub mod telling;
 #[cfg(test)]
 mod texting;
