@@ -1,0 +1,4 @@
+pub mod Numerals
+pub mod Pairs
+pub mod Splitting
+pub mod Written

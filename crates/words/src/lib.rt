@@ -1,0 +1,4 @@
+pub mod hex;
+pub mod lines;
+pub mod numbers;
+pub mod texts;
