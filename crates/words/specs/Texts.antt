@@ -48,9 +48,12 @@ is-no-text (c ∷ d ∷ e ∷ cs) = false
 abbrev pub text-word : List ℕ → Option (List ℕ)
 text-word w = cond (is-no-text w) (Some []) (unescaped w)
 
--- a byte by itself where it may stand, and else by its digits
+-- a byte that a word may hold as it is, wherever it stands: graphic, and neither `%` nor `#`
+abbrev pub stands : ℕ → Bool
+stands b = graphic b && not (eqb b 37 || eqb b 35)
+
 abbrev pub escaped-byte : ℕ → List ℕ
-escaped-byte b = cond (graphic b && not (eqb b 37 || eqb b 35)) (b ∷ []) (37 ∷ hex-pair b)
+escaped-byte b = cond (stands b) (b ∷ []) (37 ∷ hex-pair b)
 
 -- the word that stands for these bytes
 abbrev pub escaped : List ℕ → List ℕ
@@ -62,10 +65,10 @@ abbrev pub echoed-byte : ℕ → List ℕ
 echoed-byte b = cond (graphic b) (b ∷ []) (37 ∷ hex-pair b)
 
 -- words with a blank before each but the first
-abbrev pub echoed-more : List (List ℕ) → List ℕ
-echoed-more [] = []
-echoed-more (w ∷ ws) = 32 ∷ joined echoed-byte w ++ echoed-more ws
+abbrev pub echoed-from : Bool → List (List ℕ) → List ℕ
+echoed-from first [] = []
+echoed-from first (w ∷ ws) = cond first [] (32 ∷ []) ++ (joined echoed-byte w ++ echoed-from false ws)
 
+-- a command as it is echoed
 abbrev pub echoed : List (List ℕ) → List ℕ
-echoed [] = []
-echoed (w ∷ ws) = joined echoed-byte w ++ echoed-more ws
+echoed ws = echoed-from true ws

@@ -1,10 +1,15 @@
 ghost use mathlib.Core.Path.{_≡_};
-ghost use mathlib.Core.List.{_++_, map};
+ghost use mathlib.Core.List.{[], _∷_, _++_, map};
+ghost use Prim.Native.Nat.{_≤_, _<_};
+ghost use lib.ListN.{length};
+ghost use Rattle.std.specs.Slices.{found};
 ghost use Rattle.std.specs.Of.Vec.{vec-items};
 ghost use Rattle.std.specs.Of.String.{string-bytes};
 ghost use Rattle.std.specs.Options.{mapped};
 ghost use Rattle.std.specs.Vec.{made};
-ghost use Rattle.words.specs.Texts.{graphic, first-byte, text-word, escaped, escaped-byte, echoed-byte, echoed};
+ghost use Rattle.std.specs.shelf.Lists.{joined};
+ghost use Rattle.words.specs.Hex.{hex-pair};
+ghost use Rattle.words.specs.Texts.{graphic, first-byte, unescaped, is-no-text, text-word, escaped, escaped-byte, echoed-byte, echoed};
 ghost use Rattle.words.specs.Laws.{Text-reads-back as TextReadsBack};
 use crate::hex;
 use std::alloc::AllocError;
@@ -18,7 +23,8 @@ fn is_graphic(b: u8) -> bool
 
 // The byte that a word begins with, and how many bytes of the word it takes.
 fn first(word: &[u8]) -> Option<(u8, usize)>
-    ensures { λ r. ⌜ r ≡ first-byte (now (word .entry)) ⌝ }
+    ensures value { λ r. ⌜ r ≡ first-byte (now (word .entry)) ⌝ }
+    ensures within { λ r. ⌜ found r (λ p. (1 ≤ p .1) × (p .1 ≤ length (now (word .entry)))) ⌝ }
 {
     match word {
         [] => None,
@@ -34,14 +40,19 @@ fn first(word: &[u8]) -> Option<(u8, usize)>
     }
 }
 
-// The bytes of a text as a command writes it.
-pub fn bytes(heap: Global, word: &[u8]) -> Result<Option<Vec<u8>>, AllocError>
-    ensures { λ r. ⌜ made r (λ o. mapped vec-items o ≡ text-word (now (word .entry))) ⌝ }
+fn is_no_text(word: &[u8]) -> bool
+    ensures { λ r. ⌜ r ≡ is-no-text (now (word .entry)) ⌝ }
+{
+    match word {
+        [b'%', b'-'] => true,
+        _ => false,
+    }
+}
+
+fn unescape(heap: Global, word: &[u8]) -> Result<Option<Vec<u8>>, AllocError>
+    ensures { λ r. ⌜ made r (λ o. mapped vec-items o ≡ unescaped (now (word .entry))) ⌝ }
 {
     let mut out = Vec::new(heap);
-    if word == b"%-" {
-        return Ok(Some(out));
-    }
     let mut i = 0;
     while i < word.len() {
         let Some((b, n)) = first(&word[i..]) else {
@@ -53,15 +64,43 @@ pub fn bytes(heap: Global, word: &[u8]) -> Result<Option<Vec<u8>>, AllocError>
     Ok(Some(out))
 }
 
+// The bytes of a text as a command writes it.
+pub fn bytes(heap: Global, word: &[u8]) -> Result<Option<Vec<u8>>, AllocError>
+    ensures { λ r. ⌜ made r (λ o. mapped vec-items o ≡ text-word (now (word .entry))) ⌝ }
+{
+    if is_no_text(word) {
+        Ok(Some(Vec::new(heap)))
+    } else {
+        unescape(heap, word)
+    }
+}
+
+// Writes `%` and a byte's two digits.
+fn push_code(out: &mut String, b: u8) -> Result<(), AllocError>
+    ensures { λ r. ⌜ made r (λ _. string-bytes (now (out .exit)) ≡ string-bytes (now (out .entry)) ++ 37 ∷ hex-pair b) ⌝ }
+{
+    out.push('%')?;
+    hex::push(out, b)?;
+    Ok(())
+}
+
+// Writes a graphic byte.
+fn push_itself(out: &mut String, b: u8) -> Result<(), AllocError>
+    requires { ⌜ b < 128 ⌝ }
+    ensures { λ r. ⌜ made r (λ _. string-bytes (now (out .exit)) ≡ string-bytes (now (out .entry)) ++ b ∷ []) ⌝ }
+{
+    out.push(char::from(b))?;
+    Ok(())
+}
+
 // Writes a byte as a text's word has it.
 fn push(out: &mut String, b: u8) -> Result<(), AllocError>
     ensures { λ r. ⌜ made r (λ _. string-bytes (now (out .exit)) ≡ string-bytes (now (out .entry)) ++ escaped-byte b) ⌝ }
 {
-    if b == b'%' || b == b'#' || !is_graphic(b) {
-        out.push('%')?;
-        hex::push(out, b)
+    if is_graphic(b) && b != b'%' && b != b'#' {
+        push_itself(out, b)
     } else {
-        out.push(char::from(b))
+        push_code(out, b)
     }
 }
 
@@ -76,6 +115,41 @@ pub fn escaped(heap: Global, bytes: &[u8]) -> Result<String, AllocError>
     let mut out = String::new(heap);
     for b in bytes {
         push(&mut out, *b)?;
+    }
+    Ok(out)
+}
+
+// Writes a byte as the echo of a command has it.
+fn push_echo(out: &mut String, b: u8) -> Result<(), AllocError>
+    ensures { λ r. ⌜ made r (λ _. string-bytes (now (out .exit)) ≡ string-bytes (now (out .entry)) ++ echoed-byte b) ⌝ }
+{
+    if is_graphic(b) {
+        push_itself(out, b)
+    } else {
+        push_code(out, b)
+    }
+}
+
+// A word as the echo of a command has it.
+fn push_word(out: &mut String, word: &[u8]) -> Result<(), AllocError>
+    ensures { λ r. ⌜ made r (λ _. string-bytes (now (out .exit)) ≡ string-bytes (now (out .entry)) ++ joined echoed-byte (now (word .entry))) ⌝ }
+{
+    for b in word {
+        push_echo(out, *b)?;
+    }
+    Ok(())
+}
+
+// A command's words as they are echoed, joined by one blank.
+pub fn echo(heap: Global, words: &[&[u8]]) -> Result<String, AllocError>
+    ensures { λ r. ⌜ made r (λ s. string-bytes s ≡ echoed (map now (now (words .entry)))) ⌝ }
+{
+    let mut out = String::new(heap);
+    for (i, word) in words.iter().enumerate() {
+        if i > 0 {
+            out.push(' ')?;
+        }
+        push_word(&mut out, word)?;
     }
     Ok(out)
 }
