@@ -1,6 +1,6 @@
 pub mod cells;
 pub mod fault;
-pub mod read;
-pub mod write;
 mod pack;
+pub mod read;
 mod unpack;
+pub mod write;

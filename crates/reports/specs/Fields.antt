@@ -30,16 +30,36 @@ pub record Fields : Type 0 where
 
 -- the fields as they are given
 abbrev pub given : Raw → Fields
-given r = record
-  { family = r .family; row = r .row; transport = r .transport; processing = r .processing; reading = r .reading; spare = r .spare
-  ; time = r .time; place = r .place; source = r .source; destination = r .destination; id = now (r .id); acquired = now (r .acquired) }
+given r = record {
+  family = r .family;
+  row = r .row;
+  transport = r .transport;
+  processing = r .processing;
+  reading = r .reading;
+  spare = r .spare;
+  time = r .time;
+  place = r .place;
+  source = r .source;
+  destination = r .destination;
+  id = now (r .id);
+  acquired = now (r .acquired);
+}
 
 abbrev pub substrate-fields : Substrate → Fields
-substrate-fields s = record
-  { family = 0; row = transition-number (s .transition); transport = transport-number (s .transport)
-  ; processing = processing-number (s .processing); reading = reading-number (s .reading); spare = 0
-  ; time = moment (s .time); place = coded (s .place); source = coded (s .source); destination = coded (s .destination)
-  ; id = called (s .id); acquired = spelled (s .acquired) }
+substrate-fields s = record {
+  family = 0;
+  row = transition-number (s .transition);
+  transport = transport-number (s .transport);
+  processing = processing-number (s .processing);
+  reading = reading-number (s .reading);
+  spare = 0;
+  time = moment (s .time);
+  place = coded (s .place);
+  source = coded (s .source);
+  destination = coded (s .destination);
+  id = called (s .id);
+  acquired = spelled (s .acquired);
+}
 
 -- row 1 says that a place became occupied, row 2 unoccupied
 abbrev pub location-row : Option Id → ℕ
@@ -51,10 +71,20 @@ occupant-id (Some i) = called i
 occupant-id None = []
 
 abbrev pub location-fields : Location → Fields
-location-fields l = record
-  { family = 1; row = location-row (l .occupant); transport = 0; processing = 0; reading = 0; spare = 0
-  ; time = moment (l .time); place = coded (l .place); source = 0; destination = 0
-  ; id = occupant-id (l .occupant); acquired = [] }
+location-fields l = record {
+  family = 1;
+  row = location-row (l .occupant);
+  transport = 0;
+  processing = 0;
+  reading = 0;
+  spare = 0;
+  time = moment (l .time);
+  place = coded (l .place);
+  source = 0;
+  destination = 0;
+  id = occupant-id (l .occupant);
+  acquired = [];
+}
 
 -- what a report shows
 abbrev pub shown : Report → Fields

@@ -121,7 +121,18 @@ fn substrate(raw: &Raw) -> Result<Substrate, Field>
     let destination = code(raw.destination, Field::Destination)?;
     let id = name_of(raw.id)?;
     let acquired = acquired(raw.acquired)?;
-    Ok(Substrate { transition, time, id, place, source, destination, transport, processing, reading, acquired })
+    Ok(Substrate {
+        transition,
+        time,
+        id,
+        place,
+        source,
+        destination,
+        transport,
+        processing,
+        reading,
+        acquired,
+    })
 }
 
 fn location(raw: &Raw) -> Result<Location, Field>
@@ -139,7 +150,11 @@ fn location(raw: &Raw) -> Result<Location, Field>
     zero(raw.destination, Field::Destination)?;
     let occupant = occupant(occupied, raw.id)?;
     no_bytes(raw.acquired, Field::Acquired)?;
-    Ok(Location { time, place, occupant })
+    Ok(Location {
+        time,
+        place,
+        occupant,
+    })
 }
 
 impl Report {

@@ -46,7 +46,7 @@ module _ (out w : List ℕ) (i : ℕ) (so-far : after out (unescaped (drop i w))
   no-byte rest h e none = sym (ap (λ o. after out (led o rest)) none) ∙ here rest h e
 
   pub a-byte : (rest : List ℕ) (b n : ℕ) → i < length w → rest ≡ drop i w → first-byte rest ≡ Some (b, n) → (now : List ℕ) → now ≡ out ++ b ∷ []
-    → after now (unescaped (drop (i + n) w)) ≡ unescaped w
+      → after now (unescaped (drop (i + n) w)) ≡ unescaped w
   a-byte rest b n h e some now more =
       ap (λ l. after l (unescaped (drop (i + n) w))) more
       ∙ ap (λ l. after (out ++ b ∷ []) (unescaped l)) (sym (drop-drop n i w) ∙ sym (ap (drop n) e)) ∙ sym (after-more out b (unescaped (drop n rest)))

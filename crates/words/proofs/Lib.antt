@@ -3,3 +3,4 @@ pub mod Pairs
 pub mod Splitting
 pub mod Written
 pub mod Escapes
+pub mod Echoing

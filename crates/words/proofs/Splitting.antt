@@ -43,23 +43,23 @@ module _ (told : List ℕ) (ws : List (List ℕ)) (start i : ℕ) (so-far : ws +
 
   -- the word goes on
   pub word-on : (vs : List (List ℕ)) (s : ℕ) → start ≤ i → i < length told → is-blank (getD told i 0) ≡ false → vs ≡ ws → s ≡ start
-    → (s ≤ i + 1) × (vs ++ split (between s (i + 1) told) (drop (i + 1) told) ≡ split [] told)
+      → (s ≤ i + 1) × (vs ++ split (between s (i + 1) told) (drop (i + 1) told) ≡ split [] told)
   word-on vs s le h e same at = (
-      omega arith,
-      ap (λ l. l ++ split (between s (i + 1) told) (drop (i + 1) told)) same
-      ∙ ap (λ k. ws ++ split (between k (i + 1) told) (drop (i + 1) told)) at
-      ∙ ap (λ w. ws ++ split w (drop (i + 1) told)) (between-more told start i 0 le h) ∙ sym (ap (λ l. ws ++ l) (cond-false _ _ _ e)) ∙ here h,
+    omega arith,
+    ap (λ l. l ++ split (between s (i + 1) told) (drop (i + 1) told)) same
+        ∙ ap (λ k. ws ++ split (between k (i + 1) told) (drop (i + 1) told)) at
+        ∙ ap (λ w. ws ++ split w (drop (i + 1) told)) (between-more told start i 0 le h) ∙ sym (ap (λ l. ws ++ l) (cond-false _ _ _ e)) ∙ here h,
   )
 
   -- the word has come to its end
   pub word-ends : (vs : List (List ℕ)) (s : ℕ) → i < length told → is-blank (getD told i 0) ≡ true → vs ≡ ws ++ closed (between start i told) → s ≡ i + 1
-    → (s ≤ i + 1) × (vs ++ split (between s (i + 1) told) (drop (i + 1) told) ≡ split [] told)
+      → (s ≤ i + 1) × (vs ++ split (between s (i + 1) told) (drop (i + 1) told) ≡ split [] told)
   word-ends vs s h e more at = (
-      omega arith,
-      let none : i + 1 - s ≡ 0 = omega arith in
-      ap (λ l. l ++ split (between s (i + 1) told) (drop (i + 1) told)) more
-      ∙ ap (λ k. (ws ++ closed (between start i told)) ++ split (take k (drop s told)) (drop (i + 1) told)) none
-      ∙ append-assoc ws (closed (between start i told)) _ ∙ sym (ap (λ l. ws ++ l) (cond-true _ _ _ e)) ∙ here h,
+    omega arith,
+    let none : i + 1 - s ≡ 0 = omega arith in
+        ap (λ l. l ++ split (between s (i + 1) told) (drop (i + 1) told)) more
+        ∙ ap (λ k. (ws ++ closed (between start i told)) ++ split (take k (drop s told)) (drop (i + 1) told)) none
+        ∙ append-assoc ws (closed (between start i told)) _ ∙ sym (ap (λ l. ws ++ l) (cond-true _ _ _ e)) ∙ here h,
   )
 
   pub all-split : length told ≡ i → ws ++ closed (between start (length told) told) ≡ split [] told

@@ -1,4 +1,5 @@
 ghost use mathlib.Core.Path.{_≡_};
+ghost use mathlib.Core.Bool.{cond};
 ghost use mathlib.Core.List.{[], _∷_, _++_, map};
 ghost use Prim.Native.Nat.{_≤_, _<_};
 ghost use lib.ListN.{length};
@@ -30,13 +31,7 @@ fn first(word: &[u8]) -> Option<(u8, usize)>
         [] => None,
         [b'%', high, low, ..] => Some((hex::byte(*high, *low)?, 3)),
         [b'%', ..] => None,
-        [c, ..] => {
-            if is_graphic(*c) {
-                Some((*c, 1))
-            } else {
-                None
-            }
-        }
+        [c, ..] => { if is_graphic(*c) { Some((*c, 1)) } else { None } }
     }
 }
 
@@ -140,16 +135,25 @@ fn push_word(out: &mut String, word: &[u8]) -> Result<(), AllocError>
     Ok(())
 }
 
+// Writes a word, after a blank if it is not the first.
+fn push_next(out: &mut String, first: bool, word: &[u8]) -> Result<(), AllocError>
+    ensures { λ r. ⌜ made r (λ _. string-bytes (now (out .exit)) ≡ string-bytes (now (out .entry)) ++ (cond first [] (32 ∷ []) ++ joined echoed-byte (now (word .entry)))) ⌝ }
+{
+    if first {
+        return push_word(out, word);
+    }
+    out.push(' ')?;
+    push_word(out, word)?;
+    Ok(())
+}
+
 // A command's words as they are echoed, joined by one blank.
 pub fn echo(heap: Global, words: &[&[u8]]) -> Result<String, AllocError>
     ensures { λ r. ⌜ made r (λ s. string-bytes s ≡ echoed (map now (now (words .entry)))) ⌝ }
 {
     let mut out = String::new(heap);
     for (i, word) in words.iter().enumerate() {
-        if i > 0 {
-            out.push(' ')?;
-        }
-        push_word(&mut out, word)?;
+        push_next(&mut out, i == 0, word)?;
     }
     Ok(out)
 }

@@ -21,9 +21,10 @@ loop-i-again c =
     let i = c .loop-i .i in
     ap (λ f. take (i + 1) line ++ bare f (drop (i + 1) line)) (c .is-blank-fresh .ensures)
     ∙ goes-on line (c .loop-i .fresh) i (omega arith) (c .loop-i .inv)
-      (elim (c .else-fresh .came)
-      [ else-fresh·by·then-fresh·else-b-eq35 w ↦ and-right _ _ (ne-eqb _ 35 (w .if-b-eq35 .left))
-      | else-fresh·by·else-fresh w ↦ and-left _ _ (w .if-fresh .left) ])
+    (elim (c .else-fresh .came) [
+      | else-fresh·by·then-fresh·else-b-eq35 w ↦ and-right _ _ (ne-eqb _ 35 (w .if-b-eq35 .left))
+      | else-fresh·by·else-fresh w ↦ and-left _ _ (w .if-fresh .left)
+    ])
 
 pub returns : need.returns
 returns c = ended _ (c .loop-i .fresh) (c .loop-i .i) (omega arith) (c .loop-i .inv)

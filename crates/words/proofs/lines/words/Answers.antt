@@ -10,13 +10,14 @@ use Rattle.words.proofs.lines.words.Needs.{then-is-blank·in-Continue-keep, el
 
 pub loop-i-again : need.loop-i-again
 loop-i-again c =
-    elim (c .if-is-blank .came)
-    [ then-is-blank·in-Continue-keep w ↦
-      word-ends _ _ (c .loop-i .start) (c .loop-i .i) (c .loop-i .inv .1) _ _ (omega arith) (sym (w .if-is-blank .ensures tt))
-      (ap (λ v. map now (vec-items v)) (w .found-is) ∙ w .in-Continue-keep .ensures tt) (w .start-is)
-    | else-is-blank w ↦
-      word-on _ _ (c .loop-i .start) (c .loop-i .i) (c .loop-i .inv .1) _ _ (omega arith) (omega arith) (sym (w .if-is-blank .ensures tt))
-      (ap (λ v. map now (vec-items v)) (w .found-is)) (w .start-is) ]
+    elim (c .if-is-blank .came) [
+      | then-is-blank·in-Continue-keep w ↦
+          word-ends _ _ (c .loop-i .start) (c .loop-i .i) (c .loop-i .inv .1) _ _ (omega arith) (sym (w .if-is-blank .ensures tt))
+          (ap (λ v. map now (vec-items v)) (w .found-is) ∙ w .in-Continue-keep .ensures tt) (w .start-is)
+      | else-is-blank w ↦
+          word-on _ _ (c .loop-i .start) (c .loop-i .i) (c .loop-i .inv .1) _ _ (omega arith) (omega arith) (sym (w .if-is-blank .ensures tt))
+          (ap (λ v. map now (vec-items v)) (w .found-is)) (w .start-is)
+    ]
 
 pub returns : need.returns
 returns c =

@@ -15,10 +15,11 @@ returns-in-rest c =
     no-byte (vec-items (c .loop-i .out)) _ (c .loop-i .i) (c .loop-i .inv .1) _ (omega arith) (take-rest (c .args .word .now) (c .loop-i .i)) (sym (c .in-rest .ensures tt .value))
 
 pub loop-i-again : need.loop-i-again
-loop-i-again c =
-    ( omega (arith, c .in-Some .ensures tt .within)
-    , a-byte (vec-items (c .loop-i .out)) _ (c .loop-i .i) (c .loop-i .inv .1) _ (c .in-Some .b) (c .in-Some .n) (omega arith) (take-rest (c .args .word .now) (c .loop-i .i))
-      (sym (c .in-Some .ensures tt .value)) _ (c .in-Continue-push .ensures tt .items) )
+loop-i-again c = (
+  omega (arith, c .in-Some .ensures tt .within),
+  a-byte (vec-items (c .loop-i .out)) _ (c .loop-i .i) (c .loop-i .inv .1) _ (c .in-Some .b) (c .in-Some .n) (omega arith) (take-rest (c .args .word .now) (c .loop-i .i))
+      (sym (c .in-Some .ensures tt .value)) _ (c .in-Continue-push .ensures tt .items),
+)
 
 pub returns : need.returns
 returns c = no-more _ _ (c .loop-i .i) (c .loop-i .inv .1) (omega arith)
