@@ -1,0 +1,5 @@
+pub mod Places
+pub mod Frees
+pub mod Keys
+pub mod Changes
+pub mod Calls

@@ -1,1 +1,5 @@
 pub mod key;
+pub mod row;
+pub mod rows;
+#[cfg(test)]
+mod tests;

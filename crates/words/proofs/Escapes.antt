@@ -9,8 +9,9 @@ use lib.ListN.{length, drop}
 use Rattle.std.specs.declared.option.Option.{Option}
 use Rattle.std.specs.declared.option.Option.the-variants.{Some, None}
 use Rattle.std.proofs.shelf.Lists.{append-nil, length-drop, drop-all, drop-drop}
+use Rattle.std.proofs.shelf.Tests.{cond-true, cond-false}
 use Rattle.words.specs.Hex.{hex-byte, before}
-use Rattle.words.specs.Texts.{itself, taking, first-byte, unescaped}
+use Rattle.words.specs.Texts.{itself, taking, first-byte, unescaped, is-no-text, text-word}
 use Rattle.words.proofs.Pairs.{after, after-more}
 
 -- what a first byte makes of the word that begins with it
@@ -54,3 +55,12 @@ module _ (out w : List ℕ) (i : ℕ) (so-far : after out (unescaped (drop i w))
 
   pub no-more : length w ≤ i → Some out ≡ unescaped w
   no-more h = sym (ap Some (append-nil out)) ∙ sym (ap (λ l. after out (unescaped l)) (drop-all i w h)) ∙ so-far
+
+-- `%-` is the text of no bytes
+pub empty-text : (w : List ℕ) → is-no-text w ≡ true → Some [] ≡ text-word w
+unfolding text-word
+empty-text w e = sym (cond-true _ _ _ e)
+
+pub other-text : (w : List ℕ) → is-no-text w ≡ false → unescaped w ≡ text-word w
+unfolding text-word
+other-text w e = sym (cond-false _ _ _ e)

@@ -4,14 +4,14 @@ use mathlib.Core.Bool.{Bool, true, false, cond, _&&_}
 use mathlib.Core.List.{List, [], _∷_}
 use Prim.Native.Nat.{ℕ, _+_, _-_, _*_, _≤_, _<_}
 use native.Mathlib.Omega.{arith}
-use lib.Dec.{leb}
+use lib.Dec.{leb, eqb}
 use lib.ListN.{length, getD, drop}
 use Rattle.std.specs.Reads.{valueAfter, value}
 use Rattle.std.specs.Text.{asciiDigit, digitValue}
 use Rattle.std.specs.shelf.Text.{allDigits}
 use Rattle.std.specs.declared.option.Option.{Option}
 use Rattle.std.specs.declared.option.Option.the-variants.{Some, None}
-use Rattle.std.proofs.shelf.Tests.{cond-true, cond-false, le-leb, lt-leb, leb-true, leb-false, and-from, and-right}
+use Rattle.std.proofs.shelf.Tests.{cond-true, cond-false, le-leb, lt-leb, leb-true, leb-false, and-from, and-right, eqb-true}
 use Rattle.std.proofs.shelf.Lists.{at-drop-more, at-drop-all}
 use Rattle.std.proofs.shelf.Ways.{tells}
 use Rattle.words.specs.Numbers.{number-of}
@@ -56,8 +56,15 @@ read-on-is most n [] h = rw (le-leb n most h)
 read-on-is most n (c ∷ cs) h =
     first-way most (n * 10 + (c - 48)) c cs (asciiDigit c) refl (λ le. read-on-is most (n * 10 + (c - 48)) cs le) ∙ same-value most n c cs (asciiDigit c) refl
 
+-- no digits write no number
+pub no-digits : (most : ℕ) (w : List ℕ) → eqb (length w) 0 ≡ true → None ≡ number-of most w
+unfolding number-of
+no-digits most [] e = refl
+no-digits most (c ∷ cs) e = absurd (omega (arith, eqb-true _ 0 e))
+
 -- a number begins at 0
 pub begun : (most : ℕ) (w : List ℕ) → 0 < length w → read-on most 0 w ≡ number-of most w
+unfolding number-of
 begun most [] h = absurd (omega arith)
 begun most (c ∷ cs) h = read-on-is most 0 (c ∷ cs) (omega arith) ∙ sym (ap (λ t. cond ((t && allDigits (c ∷ cs)) && leb (value 10 (c ∷ cs)) most) (Some (value 10 (c ∷ cs))) None) (le-leb 1 (length (c ∷ cs)) (omega arith)))
 

@@ -32,18 +32,22 @@ one-at xs i h g = drop-more xs i 0 h ∙ ap (λ l. getD xs i 0 ∷ l) (drop-all 
 
 -- two digits that write no byte
 pub pair-none : (out xs : List ℕ) (i : ℕ) → i + 2 ≤ length xs → hex-byte (getD xs i 0) (getD xs (i + 1) 0) ≡ None → after out (hex-word (drop i xs)) ≡ hex-word xs → None ≡ hex-word xs
+unfolding hex-word
 pair-none out xs i h n inv =
     sym (ap (λ o. after out (before o (hex-word (drop (i + 2) xs)))) n) ∙ sym (ap (λ l. after out (hex-word l)) (pair-at xs i h)) ∙ inv
 
 -- two digits that write a byte
 pub pair-some : (out xs : List ℕ) (i b : ℕ) → i + 2 ≤ length xs → hex-byte (getD xs i 0) (getD xs (i + 1) 0) ≡ Some b → after out (hex-word (drop i xs)) ≡ hex-word xs → after (out ++ b ∷ []) (hex-word (drop (i + 2) xs)) ≡ hex-word xs
+unfolding hex-word
 pair-some out xs i b h n inv =
     sym (after-more out b (hex-word (drop (i + 2) xs))) ∙ sym (ap (λ o. after out (before o (hex-word (drop (i + 2) xs)))) n) ∙ sym (ap (λ l. after out (hex-word l)) (pair-at xs i h)) ∙ inv
 
 -- one digit is left
 pub odd : (out xs : List ℕ) (i : ℕ) → i < length xs → length xs < i + 2 → after out (hex-word (drop i xs)) ≡ hex-word xs → None ≡ hex-word xs
+unfolding hex-word
 odd out xs i h g inv = sym (ap (λ l. after out (hex-word l)) (one-at xs i h g)) ∙ inv
 
 -- nothing is left
 pub none-left : (out xs : List ℕ) (i : ℕ) → length xs ≤ i → after out (hex-word (drop i xs)) ≡ hex-word xs → Some out ≡ hex-word xs
+unfolding hex-word
 none-left out xs i h inv = sym (ap Some (append-nil out)) ∙ sym (ap (λ l. after out (hex-word l)) (drop-all i xs h)) ∙ inv

@@ -13,7 +13,7 @@ use Rattle.std.proofs.shelf.Lists.{joined-more, take-more, append-assoc}
 use Rattle.std.proofs.shelf.Tests.{cond-true, cond-false, and-left, and-parts, or-parts, not-true, eqb-true, eqb-false}
 use Rattle.std.proofs.shelf.Ways.{tells}
 use Rattle.words.specs.Hex.{hex-digit, hex-byte, hex-word, glyph, hex-pair, hex-digits, paired, before}
-use Rattle.words.specs.Texts.{graphic, stands, unescaped, no-text, is-no-text, escaped-byte, escaped}
+use Rattle.words.specs.Texts.{graphic, stands, unescaped, no-text, is-no-text, text-word, escaped-byte, escaped}
 use Rattle.words.specs.Laws.{Hex-reads-back, Text-reads-back}
 
 -- one byte more is written, after what stood there
@@ -36,6 +36,7 @@ byte-back b h =
     ap (λ o. paired o (hex-digit (glyph (b % 16)))) (digit-back (b / 16) high) ∙ ap (λ o. paired (Some (b / 16)) o) (digit-back (b % 16) low) ∙ ap Some whole
 
 pub hex-reads-back : Hex-reads-back
+unfolding hex-word
 hex-reads-back [] u = refl
 hex-reads-back (b ∷ bs) u = ap (λ o. before o (hex-word (hex-digits bs))) (byte-back b (u .0)) ∙ ap (before (Some b)) (hex-reads-back bs (u .1))
 
@@ -71,6 +72,7 @@ some-text b w true e = not-empty b w (or-parts (eqb b 37) (eqb b 35) (not-true _
 some-text b w false e = refl
 
 pub text-reads-back : Text-reads-back
+unfolding text-word
 text-reads-back [] u = refl
 text-reads-back (b ∷ bs) u = cond-false _ _ _ (some-text b (joined escaped-byte bs) (stands b) refl) ∙ bytes-back (b ∷ bs) u
 

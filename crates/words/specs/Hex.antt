@@ -30,7 +30,7 @@ before (Some b) None = None
 before (Some b) (Some bs) = Some (b ∷ bs)
 
 -- the bytes that a word of hex digits writes
-abbrev pub hex-word : List ℕ → Option (List ℕ)
+unfoldable pub hex-word : List ℕ → Option (List ℕ)
 hex-word [] = Some []
 hex-word (h ∷ []) = None
 hex-word (h ∷ l ∷ cs) = before (hex-byte h l) (hex-word cs)

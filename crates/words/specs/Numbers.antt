@@ -14,5 +14,5 @@ abbrev pub numeral : List ℕ → Bool
 numeral w = leb 1 (length w) && allDigits w
 
 -- the number that a word writes, if it writes one of at most this size
-abbrev pub number-of : ℕ → List ℕ → Option ℕ
+unfoldable pub number-of : ℕ → List ℕ → Option ℕ
 number-of most w = cond (numeral w && leb (value 10 w) most) (Some (value 10 w)) None

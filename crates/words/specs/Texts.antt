@@ -45,7 +45,7 @@ is-no-text (c ∷ d ∷ []) = eqb c 37 && eqb d 45
 is-no-text (c ∷ d ∷ e ∷ cs) = false
 
 -- the bytes that a word stands for: none at `%-`
-abbrev pub text-word : List ℕ → Option (List ℕ)
+unfoldable pub text-word : List ℕ → Option (List ℕ)
 text-word w = cond (is-no-text w) (Some []) (unescaped w)
 
 -- a byte that a word may hold as it is, wherever it stands: graphic, and neither `%` nor `#`

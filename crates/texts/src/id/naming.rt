@@ -2,7 +2,7 @@ ghost use mathlib.Core.Path.{_≡_};
 ghost use Rattle.std.specs.Options.{mapped};
 ghost use Rattle.std.specs.declared.option.Option.the-variants.{Some};
 ghost use Rattle.texts.specs.Form.{id-of};
-ghost use Rattle.texts.specs.Meaning.{spelled, called};
+ghost use Rattle.texts.specs.Meaning.{called};
 use crate::id::Id;
 use crate::text::Text;
 use std::fmt;
@@ -20,7 +20,7 @@ impl Id {
     }
 
     pub fn text(&self) -> Text
-        ensures { λ r. ⌜ spelled r ≡ called (now (self .entry)) ⌝ }
+        ensures { λ r. ⌜ r ≡ now (self .entry) .text ⌝ }
     {
         self.text
     }

@@ -1,9 +1,12 @@
 use mathlib.Core.Path.{sym}
 use native.Mathlib.Omega.{arith}
 use Rattle.std.proofs.shelf.Tests.{eqb-false}
-use Rattle.words.proofs.Numerals.{begun, no-digit, too-large, goes-on, ended}
+use Rattle.words.proofs.Numerals.{no-digits, begun, no-digit, too-large, goes-on, ended}
 use Rattle.words.proofs.numbers.number.Needs as need
 use Rattle.words.proofs.numbers.number.Needs.{then-d-most·by·then-d-most, then-d-most·by·else-d-most·then-n-most}
+
+pub returns-then-is-empty : need.returns-then-is-empty
+returns-then-is-empty c = no-digits _ _ (sym (c .if-is-empty .ensures tt))
 
 pub loop-b-holds : need.loop-b-holds
 loop-b-holds c =

@@ -1,0 +1,3 @@
+pub mod kind;
+pub mod place;
+pub mod wafer;
