@@ -1,9 +1,12 @@
 ghost use mathlib.Core.Path.{_≡_};
+ghost use Prim.Native.Nat.{_≤_};
+ghost use Rattle.std.specs.Slices.{found};
 ghost use Rattle.words.specs.Numbers.{number-of};
 
 // The number that a word writes, if it writes one of at most `most`.
 pub fn number(word: &[u8], most: u64) -> Option<u64>
-    ensures { λ r. ⌜ r ≡ number-of most (now (word .entry)) ⌝ }
+    ensures value { λ r. ⌜ r ≡ number-of most (now (word .entry)) ⌝ }
+    ensures within { λ r. ⌜ found r (λ n. n ≤ most) ⌝ }
 {
     if word.is_empty() {
         return None;
