@@ -5,7 +5,7 @@ use mathlib.Core.List.{List, [], _∷_}
 use Prim.Native.Nat.{ℕ, _-_, _^_}
 use lib.Chars.{codes}
 use lib.Dec.{eqb}
-use lib.ListN.{length, getD}
+use lib.ListN.{length, getD, drop}
 use Rattle.std.specs.Options.{mapped}
 use Rattle.std.specs.shelf.Text.{sameBytes}
 use Rattle.std.specs.declared.option.Option.{Option}
@@ -86,17 +86,20 @@ substrate-words ws = cond (eqb (length ws) 10) (substrate-of ws) None
 abbrev pub location-words : List (List ℕ) → Option Fields
 location-words ws = cond (eqb (length ws) 3 || eqb (length ws) 4) (location-of ws (optional ws 3)) None
 
+-- a report's words, its kind first
 abbrev pub report-of : List (List ℕ) → Option Fields
-report-of [] = None
-report-of (k ∷ ws) = cond (sameBytes k (codes "substrate")) (substrate-words ws) (cond (sameBytes k (codes "location")) (location-words ws) None)
+report-of ws =
+    cond (eqb (length ws) 0) None
+    (cond (sameBytes (word ws 0) (codes "substrate")) (substrate-words (drop 1 ws))
+    (cond (sameBytes (word ws 0) (codes "location")) (location-words (drop 1 ws)) None))
 
 -- no word is no byte
 abbrev pub bytes-of : List (List ℕ) → Option (List ℕ)
-bytes-of [] = Some []
-bytes-of (w ∷ []) = hex-word w
-bytes-of (w ∷ v ∷ ws) = None
+bytes-of ws = cond (eqb (length ws) 0) (Some []) (cond (eqb (length ws) 1) (hex-word (word ws 0)) None)
 
 -- the request of a line's words
 abbrev pub request-of : List (List ℕ) → Option Request
-request-of [] = None
-request-of (c ∷ ws) = cond (sameBytes c (codes "pack")) (mapped packing (report-of ws)) (cond (sameBytes c (codes "unpack")) (mapped unpacking (bytes-of ws)) None)
+request-of ws =
+    cond (eqb (length ws) 0) None
+    (cond (sameBytes (word ws 0) (codes "pack")) (mapped packing (report-of (drop 1 ws)))
+    (cond (sameBytes (word ws 0) (codes "unpack")) (mapped unpacking (bytes-of (drop 1 ws))) None))
