@@ -2,3 +2,4 @@ pub mod Drafts
 pub mod Requests
 pub mod Commands
 pub mod Outcomes
+pub mod Replies

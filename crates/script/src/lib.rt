@@ -3,3 +3,4 @@ pub mod draft;
 pub mod mistake;
 pub mod outcome;
 mod parts;
+mod lines;
