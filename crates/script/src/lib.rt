@@ -4,3 +4,4 @@ pub mod mistake;
 pub mod outcome;
 mod parts;
 mod lines;
+pub mod reply;

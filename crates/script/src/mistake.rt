@@ -43,3 +43,82 @@ pub impl From<AllocError> for Mistake<'_> as AllocMistake {
         Mistake::NoMemory
     }
 }
+
+// A word, with bytes that do not print as `%` and two hex digits.
+#[derive(Clone, Copy)]
+struct Quoted<'a>(&'a [u8]);
+
+impl fmt::Display for Quoted<'_> as QuotedDisplay {
+    fn fmt<W: fmt::Write>(&self, f: &mut fmt::Formatter<W>) -> fmt::Result {
+        for b in self.0 {
+            if *b >= 0x21 && *b <= 0x7E {
+                f.write_char(char::from(*b))?;
+            } else {
+                let code = *b;
+                write!(f, "%{code:02X}")?;
+            }
+        }
+        Ok(())
+    }
+}
+
+// The words that a form takes.
+fn wanted(form: Form) -> &'static str {
+    match form {
+        Form::Pack => "pack takes the words of a report, not",
+        Form::Substrate => "a substrate report has 10 words after its kind, not",
+        Form::Location => "a location report has 3 or 4 words after its kind, not",
+        Form::Unpack => "unpack takes at most one word, not",
+    }
+}
+
+// A field's word in the rules.
+fn name(field: Field) -> &'static str {
+    match field {
+        Field::Family => "FAMILY",
+        Field::Row => "ROW",
+        Field::Transport => "TRANSPORT",
+        Field::Processing => "PROCESSING",
+        Field::Reading => "READING",
+        Field::Spare => "SPARE",
+        Field::Time => "TIME",
+        Field::Place => "PLACE",
+        Field::Source => "SOURCE",
+        Field::Destination => "DESTINATION",
+        Field::Id => "ID",
+        Field::Acquired => "ACQUIRED",
+    }
+}
+
+pub impl fmt::Display for Mistake<'_> as MistakeDisplay {
+    fn fmt<W: fmt::Write>(&self, f: &mut fmt::Formatter<W>) -> fmt::Result {
+        match *self {
+            Mistake::Nothing => f.write_str("no words"),
+            Mistake::NoCommand(word) => {
+                let word = Quoted(word);
+                write!(f, "no command '{word}'")
+            }
+            Mistake::NoKind(word) => {
+                let word = Quoted(word);
+                write!(f, "no report '{word}', only substrate and location")
+            }
+            Mistake::Count(form, n) => {
+                let wanted = wanted(form);
+                write!(f, "{wanted} {n}")
+            }
+            Mistake::Number(field, word, most) => {
+                let name = name(field);
+                let word = Quoted(word);
+                write!(f, "{name} '{word}' is no number up to {most}")
+            }
+            Mistake::Text(field, word) => {
+                let name = name(field);
+                let word = Quoted(word);
+                write!(f, "{name} '{word}' is no text: each byte stands from hex 21 to 7E, and % before two hex digits or in %-")
+            }
+            Mistake::OddHex(n) => write!(f, "{n} hex digits are odd"),
+            Mistake::NoHex => f.write_str("not all are hex digits"),
+            Mistake::NoMemory => f.write_str("not enough memory"),
+        }
+    }
+}

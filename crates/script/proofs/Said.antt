@@ -1,0 +1,48 @@
+-- Lines put together.
+use mathlib.Core.Path.{_≡_, refl, sym, ap, _∙_}
+use mathlib.Core.List.{List, [], _∷_, _++_, map}
+use Prim.Native.Nat.{ℕ, _+_, _≤_, _<_}
+use lib.ListN.{length, getD, take}
+use Rattle.std.specs.shelf.Lists.{joined}
+use Rattle.std.proofs.shelf.Lists.{append-assoc, joined-more, take-more, take-all, length-map}
+use Rattle.std.specs.Of.Vec.{vec-items, vec-len}
+use Rattle.std.specs.Options.{mapped}
+use Rattle.std.specs.declared.option.Option.the-variants.{None}
+use Rattle.reports.specs.Fields.{shown}
+use Rattle.packed_log.specs.Shown.{log-shown, log-fault-shown}
+use Rattle.packed_log.specs.declared.reading.LogRead.{LogRead}
+use Rattle.reports.specs.declared.report.Report.{Report}
+use Rattle.script.specs.Replies.{verdict-by, verdict, indented, report-line, told}
+use Rattle.script.specs.Outcomes.{reports}
+
+-- three parts pushed, one after the other
+pub three-pushed : (s t u v x y z : List ℕ) → t ≡ s ++ x → u ≡ t ++ y → v ≡ u ++ z → v ≡ s ++ (x ++ (y ++ z))
+three-pushed s t u v x y z e f g = g ∙ ap (λ l. l ++ z) (f ∙ ap (λ l. l ++ y) e) ∙ append-assoc (s ++ x) y z ∙ append-assoc s x (y ++ z)
+
+-- a line for each
+pub joined-map : {X Y : Type 0} (f : Y → List ℕ) (g : X → Y) (xs : List X) → joined f (map g xs) ≡ joined (λ x. f (g x)) xs
+joined-map f g [] = refl
+joined-map f g (x ∷ xs) = ap (λ l. f (g x) ++ l) (joined-map f g xs)
+
+-- one line more
+pub line-more : {X : Type 0} (f : X → List ℕ) (old : List ℕ) (xs : List X) (i : ℕ) (d : X) (s t : List ℕ) → i < length xs → s ≡ old ++ joined f (take i xs) → t ≡ s ++ f (getD xs i d) → t ≡ old ++ joined f (take (i + 1) xs)
+line-more f old xs i d s t h e g =
+    g ∙ ap (λ l. l ++ f (getD xs i d)) e ∙ joined-more f old (take i xs) (getD xs i d) ∙ sym (ap (λ l. old ++ joined f l) (take-more xs i d h))
+
+-- a log without a fault
+pub whole-log : (l : LogRead) (n : ℕ) → n ≡ vec-len (l .reports) → l .fault ≡ None → verdict-by n None ≡ verdict (log-shown l)
+whole-log l n e f =
+    ap (λ m. verdict-by m None) (e ∙ l .reports .ok .0 ∙ sym (length-map (vec-items (l .reports)) shown))
+    ∙ ap (λ o. verdict-by (length (map shown (vec-items (l .reports)))) (mapped log-fault-shown o)) (sym f)
+
+-- a report's line
+abbrev pub line : Report → List ℕ
+line r = indented (report-line (shown r))
+
+-- the verdict's line, and then a line for each report
+pub log-told : (l : LogRead) (xs : List Report) (i : ℕ) (out s t v : List ℕ) → out ≡ s ++ joined line (take i xs) → length xs ≤ i → xs ≡ vec-items (l .reports)
+  → t ≡ [] → s ≡ t ++ indented v → v ≡ verdict (log-shown l) → out ≡ told (reports (log-shown l))
+log-told l xs i out s t v all h same none first is =
+    all ∙ ap (λ ys. s ++ joined line ys) (take-all i xs h ∙ same)
+    ∙ ap (λ b. b ++ joined line (vec-items (l .reports))) (first ∙ ap (λ b. b ++ indented v) none ∙ ap indented is)
+    ∙ ap (λ b. indented (verdict (log-shown l)) ++ b) (sym (joined-map (λ f. indented (report-line f)) shown (vec-items (l .reports))))
