@@ -1,7 +1,11 @@
 -- Lines put together.
-use mathlib.Core.Path.{_≡_, refl, sym, ap, _∙_}
+use mathlib.Core.Path.{_≡_, refl, sym, ap, subst, _∙_}
+use mathlib.Core.Bool.{true}
 use mathlib.Core.List.{List, [], _∷_, _++_, map}
 use Prim.Native.Nat.{ℕ, _+_, _≤_, _<_}
+use native.Mathlib.Omega.{arith}
+use denote.Ref.{RefT, now}
+use lib.Dec.{eqb}
 use lib.ListN.{length, getD, take}
 use Rattle.std.specs.shelf.Lists.{joined}
 use Rattle.std.proofs.shelf.Lists.{append-assoc, joined-more, take-more, take-all, length-map}
@@ -12,7 +16,10 @@ use Rattle.reports.specs.Fields.{shown}
 use Rattle.packed_log.specs.Shown.{log-shown, log-fault-shown}
 use Rattle.packed_log.specs.declared.reading.LogRead.{LogRead}
 use Rattle.reports.specs.declared.report.Report.{Report}
-use Rattle.script.specs.Replies.{verdict-by, verdict, indented, report-line, told}
+use Rattle.script.specs.Replies.{verdict-by, verdict, indented, report-line, told, Says}
+use Rattle.script.specs.Requests.{request-of}
+use Rattle.words.specs.Texts.{echoed}
+use Rattle.std.proofs.shelf.Tests.{eqb-true}
 use Rattle.script.specs.Outcomes.{reports}
 
 -- three parts pushed, one after the other
@@ -41,8 +48,24 @@ line r = indented (report-line (shown r))
 
 -- the verdict's line, and then a line for each report
 pub log-told : (l : LogRead) (xs : List Report) (i : ℕ) (out s t v : List ℕ) → out ≡ s ++ joined line (take i xs) → length xs ≤ i → xs ≡ vec-items (l .reports)
-  → t ≡ [] → s ≡ t ++ indented v → v ≡ verdict (log-shown l) → out ≡ told (reports (log-shown l))
+    → t ≡ [] → s ≡ t ++ indented v → v ≡ verdict (log-shown l) → out ≡ told (reports (log-shown l))
 log-told l xs i out s t v all h same none first is =
     all ∙ ap (λ ys. s ++ joined line ys) (take-all i xs h ∙ same)
     ∙ ap (λ b. b ++ joined line (vec-items (l .reports))) (first ∙ ap (λ b. b ++ indented v) none ∙ ap indented is)
     ∙ ap (λ b. indented (verdict (log-shown l)) ++ b) (sym (joined-map (λ f. indented (report-line f)) shown (vec-items (l .reports))))
+
+-- a line without words
+pub no-words : (ws : List (List ℕ)) (xs : List (RefT (List ℕ))) (n : ℕ) → n ≡ length xs → eqb n 0 ≡ true → map now xs ≡ ws → ws ≡ []
+no-words ws [] n e t m = sym m
+no-words ws (x ∷ xs) n e t m = absurd (omega (arith, eqb-true n 0 t))
+
+-- the echo, the line's end and the answer
+pub replied : (ws : List (List ℕ)) (xs ys es : List (RefT (List ℕ))) (answer tail out s t : List ℕ) → map now xs ≡ ws → ys ≡ xs → es ≡ xs
+    → Says (request-of (map now ys)) answer → out ≡ echoed (map now es) → s ≡ out ++ (10 ∷ []) → tail ≡ answer → t ≡ s ++ tail
+    → (a : List ℕ) × (t ≡ echoed ws ++ (10 ∷ a)) × Says (request-of ws) a
+replied ws xs ys es answer tail out s t m ea ee says is first same last = (
+  answer,
+  last ∙ ap (λ l. l ++ tail) first ∙ append-assoc out (10 ∷ []) tail ∙ ap (λ l. out ++ (10 ∷ l)) same
+      ∙ ap (λ l. l ++ (10 ∷ answer)) (is ∙ ap (λ l. echoed (map now l)) ee ∙ ap echoed m),
+  subst (λ l. Says (request-of l) answer) (ap (map now) ea ∙ m) says,
+)

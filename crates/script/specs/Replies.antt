@@ -23,7 +23,6 @@ abbrev pub _then_ : List ℕ → List ℕ → List ℕ
 a then b = a ++ (32 ∷ b)
 
 infixr 40 _then_
-
 -- the three codes
 abbrev pub codes-line : Fields → List ℕ
 codes-line f = decimal (f .place) then decimal (f .source) then decimal (f .destination)

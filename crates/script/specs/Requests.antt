@@ -48,16 +48,38 @@ substrate-of ws =
     with (small (word ws 0)) (λ row. with (large (word ws 1)) (λ time. with (text-word (word ws 2)) (λ id.
     with (coded (word ws 3)) (λ place. with (coded (word ws 4)) (λ source. with (coded (word ws 5)) (λ destination.
     with (small (word ws 6)) (λ transport. with (small (word ws 7)) (λ processing. with (small (word ws 8)) (λ reading.
-    with (text-word (word ws 9)) (λ acquired. Some (record
-      { family = 0; row = row; transport = transport; processing = processing; reading = reading; spare = 0
-      ; time = time; place = place; source = source; destination = destination; id = id; acquired = acquired })))))))))))
+    with (text-word (word ws 9)) (λ acquired. Some (record {
+      family = 0;
+      row = row;
+      transport = transport;
+      processing = processing;
+      reading = reading;
+      spare = 0;
+      time = time;
+      place = place;
+      source = source;
+      destination = destination;
+      id = id;
+      acquired = acquired;
+    })))))))))))
 
 -- the words row, time, place, and the ID that is given
 abbrev pub location-of : List (List ℕ) → Option (List ℕ) → Option Fields
 location-of ws given =
-    with (small (word ws 0)) (λ row. with (large (word ws 1)) (λ time. with (coded (word ws 2)) (λ place. with given (λ id. Some (record
-      { family = 1; row = row; transport = 0; processing = 0; reading = 0; spare = 0
-      ; time = time; place = place; source = 0; destination = 0; id = id; acquired = [] })))))
+    with (small (word ws 0)) (λ row. with (large (word ws 1)) (λ time. with (coded (word ws 2)) (λ place. with given (λ id. Some (record {
+      family = 1;
+      row = row;
+      transport = 0;
+      processing = 0;
+      reading = 0;
+      spare = 0;
+      time = time;
+      place = place;
+      source = 0;
+      destination = 0;
+      id = id;
+      acquired = [];
+    })))))
 
 -- a text that may be left out
 abbrev pub optional : List (List ℕ) → ℕ → Option (List ℕ)

@@ -1,7 +1,7 @@
 pub mod command;
 pub mod draft;
+mod lines;
 pub mod mistake;
 pub mod outcome;
 mod parts;
-mod lines;
 pub mod reply;

@@ -114,7 +114,10 @@ pub impl fmt::Display for Mistake<'_> as MistakeDisplay {
             Mistake::Text(field, word) => {
                 let name = name(field);
                 let word = Quoted(word);
-                write!(f, "{name} '{word}' is no text: each byte stands from hex 21 to 7E, and % before two hex digits or in %-")
+                write!(
+                    f,
+                    "{name} '{word}' is no text: each byte stands from hex 21 to 7E, and % before two hex digits or in %-"
+                )
             }
             Mistake::OddHex(n) => write!(f, "{n} hex digits are odd"),
             Mistake::NoHex => f.write_str("not all are hex digits"),

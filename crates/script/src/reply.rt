@@ -1,10 +1,11 @@
 ghost use mathlib.Core.Path.{_≡_};
-ghost use mathlib.Core.List.{_++_};
+ghost use mathlib.Core.List.{_++_, map};
 ghost use Rattle.std.specs.Of.String.{string-bytes};
 ghost use Rattle.std.specs.Vec.{made};
 ghost use Rattle.packed_log.specs.Shown.{log-shown, log-fault-shown};
 ghost use Rattle.script.specs.Outcomes.{came, reports};
-ghost use Rattle.script.specs.Replies.{located-text, verdict, indented, bytes-text, refusal-text, told, Error-line as ErrorLine, Replies};
+ghost use Rattle.script.specs.Requests.{request-of};
+ghost use Rattle.script.specs.Replies.{located-text, verdict, indented, bytes-text, refusal-text, told, Error-line as ErrorLine, Says, Replies};
 ghost use Rattle.std.specs.Options.{mapped};
 ghost use Rattle.reports.specs.Bounds.{out-of-bounds};
 ghost use Rattle.reports.specs.Numbers.{field-number};
@@ -122,7 +123,18 @@ fn mistake_line(heap: Global, mistake: &Mistake) -> Result<String, AllocError>
     line(heap, text.as_str())
 }
 
-// What a line of commands is answered with: its echo and the answer, or nothing where it has no words.
+// The answer to words as its lines.
+fn answer_lines(heap: Global, words: &[&[u8]]) -> Result<String, AllocError>
+    ensures { λ r. ⌜ made r (λ t. Says (request-of (map now (now (words .entry)))) (string-bytes t)) ⌝ }
+{
+    match answer(heap, words) {
+        Ok(outcome) => outcome_lines(heap, &outcome),
+        Err(Mistake::NoMemory) => Err(AllocError),
+        Err(mistake) => mistake_line(heap, &mistake),
+    }
+}
+
+// What a line is answered with: its echo and the answer, or nothing where it has no words.
 pub fn reply(heap: Global, input: &[u8]) -> Result<Option<String>, AllocError>
     ensures { λ r. ⌜ made r (λ o. Replies (line-words (now (input .entry))) (mapped string-bytes o)) ⌝ }
 {
@@ -130,11 +142,7 @@ pub fn reply(heap: Global, input: &[u8]) -> Result<Option<String>, AllocError>
     if words.is_empty() {
         return Ok(None);
     }
-    let answered = match answer(heap, words.as_slice()) {
-        Ok(outcome) => outcome_lines(heap, &outcome)?,
-        Err(Mistake::NoMemory) => return Err(AllocError),
-        Err(mistake) => mistake_line(heap, &mistake)?,
-    };
+    let answered = answer_lines(heap, words.as_slice())?;
     let mut out = echo(heap, words.as_slice())?;
     out.push_str("\n")?;
     out.push_str(answered.as_str())?;

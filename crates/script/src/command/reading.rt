@@ -54,7 +54,12 @@ fn substrate<'a>(heap: Global, words: &[&'a [u8]]) -> Result<Draft, Mistake<'a>>
 }
 
 // A text that may be left out.
-fn optional<'a>(heap: Global, field: Field, words: &[&'a [u8]], i: usize) -> Result<Vec<u8>, Mistake<'a>>
+fn optional<'a>(
+    heap: Global,
+    field: Field,
+    words: &[&'a [u8]],
+    i: usize,
+) -> Result<Vec<u8>, Mistake<'a>>
     ensures { λ r. ⌜ Reads vec-items (optional (map now (now (words .entry))) i) r ⌝ }
 {
     if count(words) == i {

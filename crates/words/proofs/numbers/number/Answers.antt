@@ -17,11 +17,12 @@ returns-then-not-is-ascii-digit c =
     record { value = no-digit _ _ _ (c .loop-b .b-index) (omega arith) (c .loop-b .inv .1) (sym (c .if-not-is-ascii-digit .ensures tt .value)); within = tt }
 
 pub returns-then-d-most : need.returns-then-d-most
-returns-then-d-most c = record
-  { value =
+returns-then-d-most c = record {
+  value =
       too-large _ _ _ (c .loop-b .b-index) (omega arith) (c .loop-b .inv .1)
-      (elim (c .then-d-most .came) [ then-d-most·by·then-d-most w ↦ omega arith | then-d-most·by·else-d-most·then-n-most w ↦ omega arith ])
-  ; within = tt }
+      (elim (c .then-d-most .came) [ then-d-most·by·then-d-most w ↦ omega arith | then-d-most·by·else-d-most·then-n-most w ↦ omega arith ]);
+  within = tt;
+}
 
 pub loop-b-again : need.loop-b-again
 loop-b-again c =
