@@ -1,5 +1,6 @@
 use script::reply::reply;
 use std::io;
+use std::io::BufRead;
 use std::io::BufReader;
 use std::io::BufWriter;
 use std::io::Write;
