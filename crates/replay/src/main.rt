@@ -1,4 +1,4 @@
-use script::reply::reply;
+use replies::reply::reply;
 use std::io;
 use std::io::BufRead;
 use std::io::BufReader;

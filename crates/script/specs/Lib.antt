@@ -2,4 +2,3 @@ pub mod Drafts
 pub mod Requests
 pub mod Commands
 pub mod Outcomes
-pub mod Replies

@@ -4,9 +4,9 @@ use Rattle.std.specs.Of.String.{string-bytes}
 use Rattle.std.specs.declared.option.Option.the-variants.{None}
 use Rattle.std.proofs.shelf.Results.{made-weaker}
 use Rattle.packed_log.specs.Shown.{log-shown}
-use Rattle.script.specs.Replies.{verdict-by, verdict}
-use Rattle.script.proofs.Said.{whole-log}
-use Rattle.script.proofs.reply.verdict.Needs as need
+use Rattle.replies.specs.Replies.{verdict-by, verdict}
+use Rattle.replies.proofs.Said.{whole-log}
+use Rattle.replies.proofs.reply.verdict.Needs as need
 
 pub returns-in-None : need.returns-in-None
 returns-in-None c =

@@ -16,11 +16,11 @@ use Rattle.reports.specs.Fields.{shown}
 use Rattle.packed_log.specs.Shown.{log-shown, log-fault-shown}
 use Rattle.packed_log.specs.declared.reading.LogRead.{LogRead}
 use Rattle.reports.specs.declared.report.Report.{Report}
-use Rattle.script.specs.Replies.{verdict-by, verdict, indented, report-line, told, Says}
+use Rattle.replies.specs.Replies.{verdict-by, verdict, indented, report-line, told, Says}
 use Rattle.script.specs.Requests.{request-of}
 use Rattle.words.specs.Texts.{echoed}
 use Rattle.std.proofs.shelf.Tests.{eqb-true}
 use Rattle.script.specs.Outcomes.{reports}
 
 -- three parts pushed, one after the other
 pub three-pushed : (s t u v x y z : List ℕ) → t ≡ s ++ x → u ≡ t ++ y → v ≡ u ++ z → v ≡ s ++ (x ++ (y ++ z))

@@ -5,8 +5,8 @@ use Rattle.std.proofs.shelf.Results.{made-weaker}
 use Rattle.layout.specs.Reads.{cut-short, fault-shown}
 use Rattle.packed_log.specs.Log.{numbered}
 use Rattle.packed_log.specs.Shown.{log-fault-shown}
-use Rattle.script.specs.Replies.{located-text}
-use Rattle.script.proofs.reply.fault.Needs as need
+use Rattle.replies.specs.Replies.{located-text}
+use Rattle.replies.proofs.reply.fault.Needs as need
 
 pub returns-in-Short : need.returns-in-Short
 returns-in-Short c =

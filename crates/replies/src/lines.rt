@@ -2,7 +2,7 @@ ghost use mathlib.Core.Path.{_≡_};
 ghost use Rattle.std.specs.Of.String.{string-bytes};
 ghost use Rattle.std.specs.Vec.{made};
 ghost use Rattle.reports.specs.Fields.{shown, substrate-fields, location-fields};
-ghost use Rattle.script.specs.Replies.{codes-line, states-line, substrate-line, location-line, report-line};
+ghost use Rattle.replies.specs.Replies.{codes-line, states-line, substrate-line, location-line, report-line};
 use reports::report::Location;
 use reports::report::Report;
 use reports::report::Substrate;

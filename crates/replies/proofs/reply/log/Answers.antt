@@ -2,9 +2,9 @@ use mathlib.Core.Path.{ap, _∙_}
 use mathlib.Core.List.{_++_}
 use native.Mathlib.Omega.{arith}
 use Rattle.std.specs.Of.String.{string-bytes}
-use Rattle.script.specs.Replies.{indented}
-use Rattle.script.proofs.Said.{line, line-more, log-told}
-use Rattle.script.proofs.reply.log.Needs as need
+use Rattle.replies.specs.Replies.{indented}
+use Rattle.replies.proofs.Said.{line, line-more, log-told}
+use Rattle.replies.proofs.reply.log.Needs as need
 
 pub loop-report-again : need.loop-report-again
 loop-report-again c =

@@ -1,7 +1,7 @@
 use lib.Chars.{codes}
 use Rattle.std.specs.Of.String.{string-bytes}
-use Rattle.script.proofs.Said.{three-pushed}
-use Rattle.script.proofs.reply.push_line.Needs as need
+use Rattle.replies.proofs.Said.{three-pushed}
+use Rattle.replies.proofs.reply.push_line.Needs as need
 
 pub returns : need.returns
 returns c =

@@ -1,7 +1,7 @@
 use mathlib.Core.Path.{sym}
 use Rattle.std.specs.Of.Vec.{vec-items}
-use Rattle.script.proofs.Said.{no-words, replied}
-use Rattle.script.proofs.reply.reply.Needs as need
+use Rattle.replies.proofs.Said.{no-words, replied}
+use Rattle.replies.proofs.reply.reply.Needs as need
 
 pub returns-then-is-empty : need.returns-then-is-empty
 returns-then-is-empty c =
