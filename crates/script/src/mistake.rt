@@ -3,6 +3,7 @@ ghost use Rattle.script.specs.declared.mistake.Mistake.the-variants.{NoMemory}
 use reports::field::Field;
 use std::alloc::AllocError;
 use std::fmt;
+use words::texts::is_graphic;
 
 // What a number of words belongs to.
 #[derive(Clone, Copy)]
@@ -51,7 +52,7 @@ struct Quoted<'a>(&'a [u8]);
 impl fmt::Display for Quoted<'_> as QuotedDisplay {
     fn fmt<W: fmt::Write>(&self, f: &mut fmt::Formatter<W>) -> fmt::Result {
         for b in self.0 {
-            if *b >= 0x21 && *b <= 0x7E {
+            if is_graphic(*b) {
                 f.write_char(char::from(*b))?;
             } else {
                 let code = *b;
@@ -60,6 +61,16 @@ impl fmt::Display for Quoted<'_> as QuotedDisplay {
         }
         Ok(())
     }
+}
+
+// Why a word is no text.
+fn no_text(word: &[u8]) -> &'static str {
+    for b in word {
+        if !is_graphic(*b) {
+            return "it has a byte outside hex 21 to 7E";
+        }
+    }
+    "% stands before two hex digits, or in %- alone"
 }
 
 // The words that a form takes.
@@ -111,16 +122,16 @@ pub impl fmt::Display for Mistake<'_> as MistakeDisplay {
                 let word = Quoted(word);
                 write!(f, "{name} '{word}' is no number up to {most}")
             }
-            Mistake::Text(field, word) => {
+            Mistake::Text(field, given) => {
                 let name = name(field);
-                let word = Quoted(word);
+                let word = Quoted(given);
                 write!(
                     f,
                     "{name} '{word}' is no text: each byte stands from hex 21 to 7E, and % before two hex digits or in %-"
                 )
             }
-            Mistake::OddHex(n) => write!(f, "{n} hex digits are odd"),
-            Mistake::NoHex => f.write_str("not all are hex digits"),
+            Mistake::OddHex(n) => write!(f, "HEX has {n} digits, an odd number"),
+            Mistake::NoHex => f.write_str("HEX has a character that is no hex digit"),
             Mistake::NoMemory => f.write_str("not enough memory"),
         }
     }

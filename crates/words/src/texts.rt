@@ -16,7 +16,8 @@ use crate::hex;
 use std::alloc::AllocError;
 use std::alloc::Global;
 
-fn is_graphic(b: u8) -> bool
+// A byte from hex 21 to 7E.
+pub fn is_graphic(b: u8) -> bool
     ensures { λ r. ⌜ r ≡ graphic b ⌝ }
 {
     b >= 0x21 && b <= 0x7E
