@@ -10,13 +10,15 @@ use Rattle.std.specs.Written.{decimal}
 use Rattle.std.specs.shelf.Lists.{joined}
 use Rattle.std.specs.declared.option.Option.{Option}
 use Rattle.std.specs.declared.option.Option.the-variants.{Some, None}
+use Rattle.std.specs.declared.result.Result.{Result}
+use Rattle.std.specs.declared.result.Result.the-variants.{Ok, Err}
 use Rattle.reports.specs.Fields.{Fields}
 use Rattle.reports.specs.Bounds.{Refusal, blank}
 use Rattle.packed_log.specs.Log.{Log}
 use Rattle.words.specs.Texts.{escaped, echoed}
 use Rattle.words.specs.Hex.{hex-digits}
 use Rattle.script.specs.Outcomes.{Answer, bytes, refusal, reports, answer-to}
-use Rattle.script.specs.Requests.{Request, request-of}
+use Rattle.script.specs.Requests.{Request, Fault, request-of}
 
 -- one text after another, with a blank between
 abbrev pub _then_ : List ℕ → List ℕ → List ℕ
@@ -87,10 +89,10 @@ told (reports l) = indented (verdict l) ++ joined (λ f. indented (report-line f
 abbrev pub Error-line : List ℕ → Type 0
 Error-line t = (reason : List ℕ) × (t ≡ indented (codes "error: " ++ reason))
 
--- the answer to a request, and an error line where the words ask for nothing
-abbrev pub Says : Option Request → List ℕ → Type 0
-Says None t = Error-line t
-Says (Some q) t = t ≡ told (answer-to q)
+-- the answer to a request, and an error line where something is wrong with the words
+abbrev pub Says : Result Request Fault → List ℕ → Type 0
+Says (Ok q) t = t ≡ told (answer-to q)
+Says (Err e) t = Error-line t
 
 -- no words, nothing; else the echo and, on lines of its own, the answer
 abbrev pub Replies : List (List ℕ) → Option (List ℕ) → Type 0

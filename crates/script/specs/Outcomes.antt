@@ -2,9 +2,6 @@
 use mathlib.Core.Path.{_≡_}
 use mathlib.Core.List.{List}
 use Prim.Native.Nat.{ℕ}
-use Rattle.std.specs.Options.{mapped}
-use Rattle.std.specs.declared.option.Option.{Option}
-use Rattle.std.specs.declared.option.Option.the-variants.{Some, None}
 use Rattle.std.specs.declared.result.Result.{Result}
 use Rattle.std.specs.declared.result.Result.the-variants.{Ok, Err}
 use Rattle.reports.specs.Numbers.{field-number}
@@ -16,7 +13,7 @@ use Rattle.packed_log.specs.Shown.{log-shown}
 use Rattle.script.specs.declared.mistake.Mistake.{Mistake}
 use Rattle.script.specs.declared.outcome.Outcome.{Outcome}
 use Rattle.script.specs.declared.outcome.Outcome.the-variants.{Packed, Refused, Unpacked}
-use Rattle.script.specs.Requests.{Request, packing, unpacking, Excused}
+use Rattle.script.specs.Requests.{Request, packing, unpacking, Fault, with, Blames}
 
 -- bytes, a refusal, or a log that was read
 pub data Answer : Type 0 where
@@ -39,7 +36,7 @@ abbrev pub answer-to : Request → Answer
 answer-to (packing f) = packing-of (making f)
 answer-to (unpacking bs) = reports (located (log bs))
 
--- the answer to the request, where there is one
-abbrev pub Answers : Option Request → Result Outcome Mistake → Type 0
-Answers q (Ok o) = mapped answer-to q ≡ Some (came o)
-Answers q (Err m) = Excused m (q ≡ None)
+-- the answer to the request, or what is wrong with the words
+abbrev pub Answers : Result Request Fault → Result Outcome Mistake → Type 0
+Answers q (Ok o) = with q (λ r. Ok (answer-to r)) ≡ Ok (came o)
+Answers q (Err m) = Blames m q

@@ -125,10 +125,8 @@ pub impl fmt::Display for Mistake<'_> as MistakeDisplay {
             Mistake::Text(field, given) => {
                 let name = name(field);
                 let word = Quoted(given);
-                write!(
-                    f,
-                    "{name} '{word}' is no text: each byte stands from hex 21 to 7E, and % before two hex digits or in %-"
-                )
+                let reason = no_text(given);
+                write!(f, "{name} '{word}' is no text: {reason}")
             }
             Mistake::OddHex(n) => write!(f, "HEX has {n} digits, an odd number"),
             Mistake::NoHex => f.write_str("HEX has a character that is no hex digit"),

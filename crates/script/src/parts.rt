@@ -4,10 +4,7 @@ ghost use Prim.Native.Nat.{_-_, _^_};
 ghost use lib.ListN.{length};
 ghost use Rattle.std.specs.Of.Vec.{vec-items};
 ghost use Rattle.std.specs.shelf.Text.{sameBytes};
-ghost use Rattle.words.specs.Numbers.{number-of};
-ghost use Rattle.words.specs.Texts.{text-word};
-ghost use Rattle.words.specs.Hex.{hex-word};
-ghost use Rattle.script.specs.Requests.{word, small, coded, large, optional, Read as Reads};
+ghost use Rattle.script.specs.Requests.{word, small, coded, large, text-in, hex-in, Read as Reads};
 use crate::mistake::AllocMistake;
 use crate::mistake::Mistake;
 use reports::field::Field;
@@ -37,34 +34,34 @@ pub fn at<'a>(words: &[&'a [u8]], i: usize) -> &'a [u8]
 
 // A row or a state.
 pub fn byte<'a>(field: Field, word: &'a [u8]) -> Result<u8, Mistake<'a>>
-    ensures { λ r. ⌜ Reads (λ n. n) (small (now (word .entry))) r ⌝ }
+    ensures { λ r. ⌜ Reads (λ n. n) (small field (now (word .entry))) r ⌝ }
 {
     numbers::byte(word).ok_or(Mistake::Number(field, word, 255))
 }
 
 // A place's code.
 pub fn code<'a>(field: Field, word: &'a [u8]) -> Result<u16, Mistake<'a>>
-    ensures { λ r. ⌜ Reads (λ n. n) (coded (now (word .entry))) r ⌝ }
+    ensures { λ r. ⌜ Reads (λ n. n) (coded field (now (word .entry))) r ⌝ }
 {
     numbers::code(word).ok_or(Mistake::Number(field, word, 65_535))
 }
 
 // Any other number.
 pub fn number<'a>(field: Field, word: &'a [u8]) -> Result<u64, Mistake<'a>>
-    ensures { λ r. ⌜ Reads (λ n. n) (large (now (word .entry))) r ⌝ }
+    ensures { λ r. ⌜ Reads (λ n. n) (large field (now (word .entry))) r ⌝ }
 {
     numbers::number(word, u64::MAX).ok_or(Mistake::Number(field, word, u64::MAX))
 }
 
 pub fn text<'a>(heap: Global, field: Field, word: &'a [u8]) -> Result<Vec<u8>, Mistake<'a>>
-    ensures { λ r. ⌜ Reads vec-items (text-word (now (word .entry))) r ⌝ }
+    ensures { λ r. ⌜ Reads vec-items (text-in field (now (word .entry))) r ⌝ }
 {
     texts::bytes(heap, word)?.ok_or(Mistake::Text(field, word))
 }
 
 // Bytes as hex digits.
 pub fn bytes<'a>(heap: Global, word: &'a [u8]) -> Result<Vec<u8>, Mistake<'a>>
-    ensures { λ r. ⌜ Reads vec-items (hex-word (now (word .entry))) r ⌝ }
+    ensures { λ r. ⌜ Reads vec-items (hex-in (now (word .entry))) r ⌝ }
 {
     let mistake = if word.len() % 2 == 1 {
         Mistake::OddHex(word.len())

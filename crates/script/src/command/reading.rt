@@ -60,7 +60,7 @@ fn optional<'a>(
     words: &[&'a [u8]],
     i: usize,
 ) -> Result<Vec<u8>, Mistake<'a>>
-    ensures { λ r. ⌜ Reads vec-items (optional (map now (now (words .entry))) i) r ⌝ }
+    ensures { λ r. ⌜ Reads vec-items (optional field (map now (now (words .entry))) i) r ⌝ }
 {
     if count(words) == i {
         return Ok(Vec::new(heap));
