@@ -17,10 +17,12 @@ use Rattle.packed_log.specs.Shown.{log-shown, log-fault-shown}
 use Rattle.packed_log.specs.declared.reading.LogRead.{LogRead}
 use Rattle.reports.specs.declared.report.Report.{Report}
 use Rattle.replies.specs.Replies.{verdict-by, verdict, indented, report-line, told, Says}
-use Rattle.script.specs.Requests.{request-of}
+use Rattle.std.specs.declared.result.Result.{Result}
+use Rattle.std.specs.declared.result.Result.the-variants.{Ok, Err}
+use Rattle.script.specs.Requests.{Request, Fault, with, request-of}
 use Rattle.words.specs.Texts.{echoed}
 use Rattle.std.proofs.shelf.Tests.{eqb-true}
-use Rattle.script.specs.Outcomes.{reports}
+use Rattle.script.specs.Outcomes.{Answer, reports, answer-to}
 
 -- three parts pushed, one after the other
 pub three-pushed : (s t u v x y z : List ℕ) → t ≡ s ++ x → u ≡ t ++ y → v ≡ u ++ z → v ≡ s ++ (x ++ (y ++ z))
@@ -69,3 +71,8 @@ replied ws xs ys es answer tail out s t m ea ee says is first same last = (
       ∙ ap (λ l. l ++ (10 ∷ answer)) (is ∙ ap (λ l. echoed (map now l)) ee ∙ ap echoed m),
   subst (λ l. Says (request-of l) answer) (ap (map now) ea ∙ m) says,
 )
+
+-- the outcome of a request is said
+pub said : (q : Result Request Fault) (a : Answer) (t : List ℕ) → with q (λ r. Ok (answer-to r)) ≡ Ok a → t ≡ told a → Says q t
+said (Ok r) a t e g = cc
+said (Err f) a t e g = absurd (let z : _≡_ {A = ℕ} 0 1 = cc in omega arith)

@@ -71,9 +71,20 @@ substrate-of ws =
     with (small field.Row (word ws 0)) (λ row. with (large field.Time (word ws 1)) (λ time. with (text-in field.Id (word ws 2)) (λ id.
     with (coded field.Place (word ws 3)) (λ place. with (coded field.Source (word ws 4)) (λ source. with (coded field.Destination (word ws 5)) (λ destination.
     with (small field.Transport (word ws 6)) (λ transport. with (small field.Processing (word ws 7)) (λ processing. with (small field.Reading (word ws 8)) (λ reading.
-    with (text-in field.Acquired (word ws 9)) (λ acquired. Ok (record
-      { family = 0; row = row; transport = transport; processing = processing; reading = reading; spare = 0
-      ; time = time; place = place; source = source; destination = destination; id = id; acquired = acquired })))))))))))
+    with (text-in field.Acquired (word ws 9)) (λ acquired. Ok (record {
+      family = 0;
+      row = row;
+      transport = transport;
+      processing = processing;
+      reading = reading;
+      spare = 0;
+      time = time;
+      place = place;
+      source = source;
+      destination = destination;
+      id = id;
+      acquired = acquired;
+    })))))))))))
 
 -- a text that may be left out
 abbrev pub optional : Field → List (List ℕ) → ℕ → Result (List ℕ) Fault
@@ -83,9 +94,20 @@ optional f ws i = cond (eqb (length ws) i) (Ok []) (text-in f (word ws i))
 abbrev pub location-of : List (List ℕ) → Result Fields Fault
 location-of ws =
     with (small field.Row (word ws 0)) (λ row. with (large field.Time (word ws 1)) (λ time. with (coded field.Place (word ws 2)) (λ place.
-    with (optional field.Id ws 3) (λ id. Ok (record
-      { family = 1; row = row; transport = 0; processing = 0; reading = 0; spare = 0
-      ; time = time; place = place; source = 0; destination = 0; id = id; acquired = [] })))))
+    with (optional field.Id ws 3) (λ id. Ok (record {
+      family = 1;
+      row = row;
+      transport = 0;
+      processing = 0;
+      reading = 0;
+      spare = 0;
+      time = time;
+      place = place;
+      source = 0;
+      destination = 0;
+      id = id;
+      acquired = [];
+    })))))
 
 -- a report of ten words after `substrate`, or of three or four after `location`
 abbrev pub substrate-words : List (List ℕ) → Result Fields Fault
