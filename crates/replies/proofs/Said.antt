@@ -22,7 +22,7 @@ use Rattle.std.specs.declared.result.Result.the-variants.{Ok, Err}
 use Rattle.script.specs.Requests.{Request, Fault, with, request-of}
 use Rattle.words.specs.Texts.{echoed}
 use Rattle.std.proofs.shelf.Tests.{eqb-true}
-use Rattle.script.specs.Outcomes.{Answer, reports, answer-to}
+use Rattle.outcomes.specs.Outcomes.{Answer, reports, answer-to}
 
 -- three parts pushed, one after the other
 pub three-pushed : (s t u v x y z : List ℕ) → t ≡ s ++ x → u ≡ t ++ y → v ≡ u ++ z → v ≡ s ++ (x ++ (y ++ z))

@@ -17,7 +17,7 @@ use Rattle.reports.specs.Bounds.{Refusal, blank}
 use Rattle.packed_log.specs.Log.{Log}
 use Rattle.words.specs.Texts.{escaped, echoed}
 use Rattle.words.specs.Hex.{hex-digits}
-use Rattle.script.specs.Outcomes.{Answer, bytes, refusal, reports, answer-to}
+use Rattle.outcomes.specs.Outcomes.{Answer, bytes, refusal, reports, answer-to}
 use Rattle.script.specs.Requests.{Request, Fault, request-of}
 
 -- one text after another, with a blank between

@@ -11,10 +11,10 @@ use Rattle.std.specs.declared.result.Result.{Result}
 use Rattle.std.specs.declared.result.Result.the-variants.{Ok, Err}
 use Rattle.texts.specs.Form.{formed, named}
 use Rattle.texts.specs.declared.id.Id.{Id}
-use Rattle.reports.specs.declared.field.Field.{Field}
-use Rattle.reports.specs.declared.field.Field.the-variants as field
-use Rattle.reports.specs.Numbers.{field-number, is-transition, is-transport, is-processing, is-reading}
-use Rattle.reports.specs.Values.{is-moment, is-code}
+use Rattle.values.specs.declared.field.Field.{Field}
+use Rattle.values.specs.declared.field.Field.the-variants as field
+use Rattle.values.specs.Numbers.{field-number, is-transition, is-transport, is-processing, is-reading}
+use Rattle.values.specs.Values.{is-moment, is-code}
 use Rattle.reports.specs.Fields.{Fields, location-row, occupant-id}
 
 -- a refusal by its number and the values that go with it

@@ -11,8 +11,8 @@ use Rattle.reports.specs.declared.report.Report.{Report}
 use Rattle.reports.specs.declared.report.Report.the-variants.{OfSubstrate, OfLocation}
 use Rattle.reports.specs.declared.report.Substrate.{Substrate}
 use Rattle.reports.specs.declared.report.Location.{Location}
-use Rattle.reports.specs.Numbers.{transition-number, transport-number, processing-number, reading-number}
-use Rattle.reports.specs.Values.{moment, coded}
+use Rattle.values.specs.Numbers.{transition-number, transport-number, processing-number, reading-number}
+use Rattle.values.specs.Values.{moment, coded}
 
 pub record Fields : Type 0 where
   pub family : ℕ

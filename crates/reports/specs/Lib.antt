@@ -1,4 +1,2 @@
-pub mod Numbers
-pub mod Values
 pub mod Fields
 pub mod Bounds

@@ -2,25 +2,25 @@ ghost use mathlib.Core.Path.{_≡_};
 ghost use mathlib.Core.Bool.{cond, _&&_};
 ghost use mathlib.Core.List.{[]};
 ghost use lib.Dec.{eqb, leb};
-ghost use Rattle.reports.specs.Numbers.{transition-number, transport-number, processing-number, reading-number, is-transition, is-transport, is-processing, is-reading};
+ghost use Rattle.values.specs.Numbers.{transition-number, transport-number, processing-number, reading-number, is-transition, is-transport, is-processing, is-reading};
 ghost use Rattle.reports.specs.Fields.{given, shown, substrate-fields, location-fields};
 ghost use Rattle.reports.specs.Bounds.{making, told, blank, Checked, Occupies};
-ghost use Rattle.reports.specs.Values.{moment, coded, is-moment, is-code};
+ghost use Rattle.values.specs.Values.{moment, coded, is-moment, is-code};
 ghost use Rattle.texts.specs.Form.{named, formed};
 ghost use Rattle.texts.specs.Meaning.{called, spelled};
-use crate::code::Code;
-use crate::field::Field;
 use crate::raw::Raw;
 use crate::report::Location;
 use crate::report::Report;
 use crate::report::Substrate;
-use crate::states::Processing;
-use crate::states::Reading;
-use crate::states::Transport;
-use crate::time::Time;
-use crate::transition::Transition;
 use texts::id::Id;
 use texts::text::Text;
+use values::code::Code;
+use values::field::Field;
+use values::states::Processing;
+use values::states::Reading;
+use values::states::Transport;
+use values::time::Time;
+use values::transition::Transition;
 
 fn row(number: u8) -> Result<Transition, Field>
     ensures { λ r. ⌜ Checked transition-number number (is-transition number) Field.Row r ⌝ }

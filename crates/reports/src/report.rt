@@ -1,11 +1,11 @@
-use crate::code::Code;
-use crate::states::Processing;
-use crate::states::Reading;
-use crate::states::Transport;
-use crate::time::Time;
-use crate::transition::Transition;
 use texts::id::Id;
 use texts::text::Text;
+use values::code::Code;
+use values::states::Processing;
+use values::states::Reading;
+use values::states::Transport;
+use values::time::Time;
+use values::transition::Transition;
 
 // A wafer took a row of the table of transitions.
 #[derive(Clone, Copy)]

@@ -1,8 +1,8 @@
 use crate::kind::Kind;
-use reports::code::Code;
 use table::key::NumberKey;
 use table::row::Row;
 use texts::id::Id;
+use values::code::Code;
 
 // A place of the cabinet, looked up by its code.
 #[derive(Clone, Copy)]

@@ -1,11 +1,11 @@
-use reports::code::Code;
-use reports::states::Processing;
-use reports::states::Reading;
-use reports::states::Transport;
 use table::row::Row;
 use texts::id::Id;
 use texts::text::Text;
 use texts::text::making::TextKey;
+use values::code::Code;
+use values::states::Processing;
+use values::states::Reading;
+use values::states::Transport;
 
 // A registered wafer, looked up by its ID.
 #[derive(Clone, Copy)]

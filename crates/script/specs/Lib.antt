@@ -1,4 +1,3 @@
 pub mod Drafts
 pub mod Requests
 pub mod Commands
-pub mod Outcomes

@@ -11,10 +11,10 @@ use Rattle.std.specs.Options.{okOr}
 use Rattle.std.specs.shelf.Text.{sameBytes}
 use Rattle.std.specs.declared.result.Result.{Result}
 use Rattle.std.specs.declared.result.Result.the-variants.{Ok, Err}
-use Rattle.reports.specs.declared.field.Field.{Field}
-use Rattle.reports.specs.declared.field.Field.the-variants as field
+use Rattle.values.specs.declared.field.Field.{Field}
+use Rattle.values.specs.declared.field.Field.the-variants as field
 use Rattle.reports.specs.Fields.{Fields}
-use Rattle.words.specs.Numbers.{number-of}
+use Rattle.scan.specs.Numbers.{number-of}
 use Rattle.words.specs.Texts.{text-word}
 use Rattle.words.specs.Hex.{hex-word}
 use Rattle.script.specs.declared.mistake.Form.{Form}

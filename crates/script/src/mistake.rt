@@ -1,8 +1,8 @@
 ghost use mathlib.Core.Path.{_≡_};
 ghost use Rattle.script.specs.declared.mistake.Mistake.the-variants.{NoMemory};
-use reports::field::Field;
 use std::alloc::AllocError;
 use std::fmt;
+use values::field::Field;
 use words::texts::is_graphic;
 
 // What a number of words belongs to.

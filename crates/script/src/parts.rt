@@ -7,10 +7,10 @@ ghost use Rattle.std.specs.shelf.Text.{sameBytes};
 ghost use Rattle.script.specs.Requests.{word, small, coded, large, text-in, hex-in, Read as Reads};
 use crate::mistake::AllocMistake;
 use crate::mistake::Mistake;
-use reports::field::Field;
+use scan::numbers;
 use std::alloc::Global;
+use values::field::Field;
 use words::hex;
-use words::numbers;
 use words::texts;
 
 pub fn is(word: &[u8], name: &[u8]) -> bool

@@ -1,7 +1,3 @@
-use reports::code::Code;
-use reports::states::Processing;
-use reports::states::Reading;
-use reports::states::Transport;
 use rows::kind::Kind;
 use rows::place::Place;
 use rows::place::PlaceRow;
@@ -13,6 +9,10 @@ use table::rows::Table;
 use texts::id::Id;
 use texts::text::Text;
 use texts::text::making::TextKey;
+use values::code::Code;
+use values::states::Processing;
+use values::states::Reading;
+use values::states::Transport;
 
 fn place(number: u16) -> Result<Place, Fail> {
     let Some(code) = Code::new(number) else {

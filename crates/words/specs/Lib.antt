@@ -1,5 +1,3 @@
-pub mod Lines
-pub mod Numbers
 pub mod Hex
 pub mod Texts
 pub mod Laws

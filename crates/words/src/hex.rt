@@ -23,7 +23,7 @@ fn digit(c: u8) -> Option<u8>
 }
 
 // The byte that two hex digits write.
-pub fn byte(high: u8, low: u8) -> Option<u8>
+pub(crate) fn byte(high: u8, low: u8) -> Option<u8>
     ensures { λ r. ⌜ r ≡ hex-byte high low ⌝ }
 {
     let h = digit(high)?;
@@ -62,7 +62,7 @@ fn digit_of(value: u8) -> char
 }
 
 // Writes a byte's two digits.
-pub fn push(out: &mut String, b: u8) -> Result<(), AllocError>
+pub(crate) fn push(out: &mut String, b: u8) -> Result<(), AllocError>
     ensures { λ r. ⌜ made r (λ _. string-bytes (now (out .exit)) ≡ string-bytes (now (out .entry)) ++ hex-pair b) ⌝ }
 {
     out.push(digit_of(b / 16))?;

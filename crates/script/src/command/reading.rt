@@ -17,8 +17,8 @@ use crate::parts::count;
 use crate::parts::is;
 use crate::parts::number;
 use crate::parts::text;
-use reports::field::Field;
 use std::alloc::Global;
+use values::field::Field;
 
 // A substrate report by its ten words.
 fn substrate<'a>(heap: Global, words: &[&'a [u8]]) -> Result<Draft, Mistake<'a>>

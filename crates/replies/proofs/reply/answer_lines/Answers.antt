@@ -2,7 +2,7 @@ use mathlib.Core.List.{map}
 use denote.Ref.{now}
 use Rattle.std.specs.Of.String.{string-bytes}
 use Rattle.std.proofs.shelf.Results.{made-weaker}
-use Rattle.script.specs.Outcomes.{came}
+use Rattle.outcomes.specs.Outcomes.{came}
 use Rattle.script.specs.Requests.{request-of}
 use Rattle.replies.specs.Replies.{told, Says}
 use Rattle.replies.proofs.Said.{said}

@@ -1,6 +1,0 @@
-use mathlib.Core.Path.{sym}
-use Rattle.words.proofs.Splitting.{kept}
-use Rattle.words.proofs.lines.keep.Needs as need
-
-pub returns-in-Continue-push : need.returns-in-Continue-push
-returns-in-Continue-push c = kept _ _ (c .args .word) (sym (c .if-not-is-empty .ensures tt)) (c .in-Continue-push .ensures tt .items)
