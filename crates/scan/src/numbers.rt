@@ -3,8 +3,8 @@ ghost use Prim.Native.Nat.{_≤_};
 ghost use Rattle.std.specs.Slices.{found};
 ghost use Rattle.scan.specs.Numbers.{number-of};
 
-// The number that a word writes, if it writes one of at most `most`.
-pub fn number(word: &[u8], most: u64) -> Option<u64>
+// The number that decimal digits write, if they are some and it is at most `most`.
+fn decimal(word: &[u8], most: u64) -> Option<u64>
     ensures value { λ r. ⌜ r ≡ number-of most (now (word .entry)) ⌝ }
     ensures within { λ r. ⌜ found r (λ n. n ≤ most) ⌝ }
 {
@@ -23,6 +23,14 @@ pub fn number(word: &[u8], most: u64) -> Option<u64>
         n = n * 10 + d;
     }
     Some(n)
+}
+
+// The number that a word writes, if it writes one of at most `most`.
+pub fn number(word: &[u8], most: u64) -> Option<u64>
+    ensures value { λ r. ⌜ r ≡ number-of most (now (word .entry)) ⌝ }
+    ensures within { λ r. ⌜ found r (λ n. n ≤ most) ⌝ }
+{
+    decimal(word, most)
 }
 
 // A row, a state or a reading: at most 255.

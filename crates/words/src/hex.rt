@@ -70,8 +70,7 @@ pub(crate) fn push(out: &mut String, b: u8) -> Result<(), AllocError>
     Ok(())
 }
 
-// The digits of bytes, which read as those bytes again.
-pub fn digits(heap: Global, bytes: &[u8]) -> Result<String, AllocError>
+fn spelt(heap: Global, bytes: &[u8]) -> Result<String, AllocError>
     ensures value { λ r. ⌜ made r (λ s. string-bytes s ≡ hex-digits (now (bytes .entry))) ⌝ }
     ensures reads { λ _. ⌜ HexReadsBack ⌝ }
 {
@@ -80,4 +79,12 @@ pub fn digits(heap: Global, bytes: &[u8]) -> Result<String, AllocError>
         push(&mut out, *b)?;
     }
     Ok(out)
+}
+
+// The digits of bytes, which read as those bytes again.
+pub fn digits(heap: Global, bytes: &[u8]) -> Result<String, AllocError>
+    ensures value { λ r. ⌜ made r (λ s. string-bytes s ≡ hex-digits (now (bytes .entry))) ⌝ }
+    ensures reads { λ _. ⌜ HexReadsBack ⌝ }
+{
+    spelt(heap, bytes)
 }

@@ -2,8 +2,8 @@ use mathlib.Core.Path.{sym}
 use native.Mathlib.Omega.{arith}
 use Rattle.std.proofs.shelf.Tests.{eqb-false}
 use Rattle.scan.proofs.Numerals.{no-digits, begun, no-digit, too-large, goes-on, ended}
-use Rattle.scan.proofs.numbers.number.Needs as need
-use Rattle.scan.proofs.numbers.number.Needs.{then-d-most·by·then-d-most, then-d-most·by·else-d-most·then-n-most}
+use Rattle.scan.proofs.numbers.decimal.Needs as need
+use Rattle.scan.proofs.numbers.decimal.Needs.{then-d-most·by·then-d-most, then-d-most·by·else-d-most·then-n-most}
 
 pub returns-then-is-empty : need.returns-then-is-empty
 returns-then-is-empty c = record { value = no-digits _ _ (sym (c .if-is-empty .ensures tt)); within = tt }

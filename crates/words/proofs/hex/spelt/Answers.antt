@@ -5,7 +5,7 @@ use Rattle.std.proofs.shelf.Results.{made-from-err}
 use Rattle.std.proofs.shelf.Lists.{take-all}
 use Rattle.words.specs.Hex.{hex-digits, hex-pair}
 use Rattle.words.proofs.Written.{written-more, hex-reads-back}
-use Rattle.words.proofs.hex.digits.Needs as need
+use Rattle.words.proofs.hex.spelt.Needs as need
 
 pub returns-in-Break-push : need.returns-in-Break-push
 returns-in-Break-push c = record { value = made-from-err _ _ (c .from-residual .ensures .0); reads = hex-reads-back }
