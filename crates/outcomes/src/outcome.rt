@@ -1,3 +1,4 @@
+use layout::cells::STRIDE;
 use packed_log::reading::LogRead;
 use values::field::Field;
 
@@ -7,7 +8,7 @@ pub mod making;
 #[derive(Drop)]
 pub enum Outcome {
     // A report's bytes.
-    Packed([u8; 41]),
+    Packed([u8; STRIDE]),
     // The first field outside its bounds.
     Refused(Field),
     // The reports of bytes, up to their end or their first fault.
