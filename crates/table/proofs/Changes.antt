@@ -2,7 +2,7 @@
 use Rattle.std.proofs.Common.{◌≡◌, ℕ, zero, suc, ◌<◌, ◌≤◌, Bool, true, false, ◌≢◌, ◌⊎◌, List, length, set, replicate, Some, None, Decides, Option, sym, refl, ap, ◌∙◌, subst, inl, ⊎_elim, arith, get_or-set_other}
 use Rattle.std.proofs.lemmas.List.{length-set, set-get_or, set_past}
 use Rattle.std.proofs.lemmas.Bool.{cases_Bool, cases_lt, false≢true}
-use Rattle.table.specs.Lookup.{bears, count, in_use, occupied, one_if, placed, position, row_at, vacant, Once, Stands}
+use Rattle.table.specs.Lookup.{bears, count, in_use, occupied, one_if, placed, row_at, vacant, Once, Stands}
 use Rattle.table.specs.Laws.{Filled, OneLess, OneMore, KeepsOnce, Others, PutOwn, Unknown, VacatedOthers, VacatedOwn}
 use Rattle.table.proofs.Places.{NoneBelow, Leads, count_set, count_some}
 use Rattle.table.proofs.Frees.{one_kind}

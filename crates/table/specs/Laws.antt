@@ -1,6 +1,6 @@
 -- What the calls of a table keep to, over any rows and keys.
 use Rattle.std.specs.Prelude.{◌≡◌, ℕ, ◌+◌, ◌<◌, Bool, true, List, length, is_some, Some, None, Option, ◌≢◌}
-use Rattle.table.specs.Lookup.{in_use, lookup, one_if, position, row_at, vacant, Once, Stands}
+use Rattle.table.specs.Lookup.{in_use, lookup, one_if, row_at, vacant, Once, Stands}
 
 -- the answer is the position of the first free row, and none if there is none
 abbrev pub FirstFree : {R : Type 0} → List (Option R) → Option ℕ → Type 0

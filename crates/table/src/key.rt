@@ -1,5 +1,5 @@
 ghost use Rattle.std.specs.Prelude.{◌≡◌, ℕ, Bool, Decides, nat_eq};
-ghost use Rattle.std.proofs.Common.{rules};
+ghost use Rattle.std.proofs.lemmas.Bool.Decides.{Decides-eqb};
 
 // What rows are looked up by.
 pub trait Key: Copy {
@@ -25,7 +25,7 @@ impl Key for u16 {
 
     ghost tells = { nat_eq };
 
-    ghost exact = { Prim.search rules };
+    ghost exact = { λ a b. Decides-eqb a b };
 
     fn same(&self, other: &u16) -> bool {
         *self == *other

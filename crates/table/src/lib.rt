@@ -1,3 +1,5 @@
+#![tactic(auto)]
+
 pub mod key;
 pub mod row;
 pub mod rows;

@@ -6,9 +6,9 @@ use Rattle.table.proofs.rows.Table.find.Goals as goal
 
 pub returns-then-holds : goal.returns-then-holds
 returns-then-holds g c =
-    let says = λ (row : g.row.R.Denot). g.Key-as-Key.meaning (g.R.Row.named row) in
-    let tells = g.Key-as-Key.tells in
-    let m = g.Key-as-Key.meaning c.args.key.now in
+    let says = λ (row : g.row.R.Denot). g.R.Key.Key.meaning (g.R.Row.named row) in
+    let tells = g.R.Key.Key.tells in
+    let m = g.R.Key.Key.meaning c.args.key.now in
     let rows = c.args.self.now.rows.now in
     let h = leads_here (bears says tells m) rows c.loop-i.i c.index-rows-i.result c.loop-i-test.true c.index-rows-i.is c.loop-i.invariant c.if-holds.ensures in
     record {
@@ -20,9 +20,9 @@ returns-then-holds g c =
 
 pub returns : goal.returns
 returns g c =
-    let says = λ (row : g.row.R.Denot). g.Key-as-Key.meaning (g.R.Row.named row) in
-    let tells = g.Key-as-Key.tells in
-    let m = g.Key-as-Key.meaning c.args.key.now in
+    let says = λ (row : g.row.R.Denot). g.R.Key.Key.meaning (g.R.Row.named row) in
+    let tells = g.R.Key.Key.tells in
+    let m = g.R.Key.Key.meaning c.args.key.now in
     let rows = c.args.self.now.rows.now in
     let h = leads-end (bears says tells m) rows c.loop-i.i c.loop-i-test.false c.loop-i.invariant in
     record {

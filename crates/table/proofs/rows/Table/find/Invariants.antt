@@ -3,4 +3,4 @@ use Rattle.table.proofs.Places.{NoneBelow}
 use Rattle.table.proofs.rows.Table.find.Given as goal
 
 abbrev pub invariant-loop-i : goal.invariant-loop-i
-invariant-loop-i g l = NoneBelow (bears (λ row. g.Key-as-Key.meaning (g.R.Row.named row)) g.Key-as-Key.tells (g.Key-as-Key.meaning l.key)) l.rows l.i
+invariant-loop-i g l = NoneBelow (bears (λ row. g.R.Key.Key.meaning (g.R.Row.named row)) g.R.Key.Key.tells (g.R.Key.Key.meaning l.key)) l.rows l.i

@@ -2,8 +2,8 @@ use Rattle.std.proofs.Common.{arith}
 use Rattle.table.proofs.Frees.{one_kind, use_all, use_more}
 use Rattle.table.proofs.rows.Table.used.Goals as goal
 
-pub overflow-add-n : goal.overflow-add-n
-overflow-add-n g c = omega (arith, one_kind c.index-rows-i.result, c.tally-n.ensures, c.loop-i.invariant.0, c.loop-i-test.true)
+pub overflow_add-n : goal.overflow_add-n
+overflow_add-n g c = omega (arith, one_kind c.index-rows-i.result, c.tally-n.ensures, c.loop-i.invariant.0, c.loop-i-test.true)
 
 pub loop-i-preserved : goal.loop-i-preserved
 loop-i-preserved g c =
