@@ -1,10 +1,10 @@
 -- Copying given bytes into a text, one after the other.
-use Rattle.std.proofs.Common.{◌≡◌, ℕ, suc, ◌+◌, ◌-◌, ◌<◌, ◌≤◌, Bool, true, false, ◌&&◌, ◌⊎◌, List, [], ◌∷◌, ◌++◌, length, get_or, take, drop, set, replicate, Some, None, IsAscii, sym, refl, ap, ◌∙◌, subst, append_assoc, arith}
+use Rattle.std.proofs.Common.{◌≡◌, ℕ, suc, ◌+◌, ◌-◌, ◌<◌, ◌≤◌, Bool, true, false, ◌&&◌, ◌⊎◌, List, [], ◌∷◌, ◌++◌, length, get_or, take, drop, set, replicate, Some, None, IsAscii, sym, refl, ap, ◌∙◌, append_assoc, arith}
 use Rattle.std.proofs.lemmas.List.{at_drop_more, at_drop_all, take_more, take_all, take_at, set_at, length-take-le}
 use Rattle.std.proofs.lemmas.Bool.{cond-true, cond-false, and_right, and_from, and_left, le-leb, lt-leb}
 use Rattle.std.proofs.lemmas.Bool.Decides.{nat_tests}
 use Rattle.std.proofs.lemmas.Str.Ascii.{IsAscii-nil, IsAscii-cons}
-use Rattle.texts.specs.Form.{graphic, graphic_all, formed, text_of, padded}
+use Rattle.texts.specs.Form.{graphic, graphic_all, text_of, padded}
 
 -- what stands in the sixteen bytes before turn i, and what is left to look at
 abbrev pub Copied : List ℕ → List ℕ → ℕ → Type 0

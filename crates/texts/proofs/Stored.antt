@@ -1,5 +1,5 @@
 -- Stored texts: the sixteen bytes and the length say the same as the text.
-use Rattle.std.proofs.Common.{◌≡◌, ℕ, ◌-◌, ◌≤◌, Bool, true, eqb, List, ◌++◌, length, take, replicate, Decides, sym, refl, ap, ◌∙◌, arith}
+use Rattle.std.proofs.Common.{◌≡◌, ℕ, ◌-◌, ◌≤◌, Bool, true, eqb, List, ◌++◌, length, take, replicate, Decides, sym, ap, ◌∙◌, arith}
 use Rattle.std.specs.Str.{bytes_eq}
 use Rattle.std.proofs.lemmas.List.{length-take-le, length-take, length-append, length-replicate}
 use Rattle.std.proofs.lemmas.Bool.{and_from, le-leb}

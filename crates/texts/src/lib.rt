@@ -1,2 +1,4 @@
+#![tactic(auto)]
+
 pub mod id;
 pub mod text;
