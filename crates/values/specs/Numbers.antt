@@ -1,5 +1,5 @@
 -- The numbers of states, rows and fields, and the numbers that are one.
-use Rattle.std.specs.Prelude.{ℕ, Bool, true, false, cond, ◌&&◌, ◌||◌, Some, None, Option, ◌==◌, nat_le}
+use Rattle.std.specs.Prelude.{ℕ, Bool, cond, ◌&&◌, ◌||◌, Some, None, Option, ◌==◌, nat_le}
 use Rattle.values.specs.declared.states.Transport.{Transport}
 use Rattle.values.specs.declared.states.Transport.TheVariants as transport
 use Rattle.values.specs.declared.states.Processing.{Processing}
