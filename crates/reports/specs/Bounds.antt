@@ -1,5 +1,5 @@
 -- The bounds of a report's fields, and what becomes of fields that are to make a report.
-use Rattle.std.specs.Prelude.{◌≡◌, ℕ, ◌+◌, Bool, true, false, cond, ◌&&◌, List, [], ◌∷◌, length, Some, None, Ok, Err, Option, Result, ◌==◌, nat_le}
+use Rattle.std.specs.Prelude.{◌≡◌, ℕ, ◌+◌, Bool, true, false, cond, ◌&&◌, List, [], ◌∷◌, length, Ok, Err, Option, Result, ◌==◌, nat_le}
 use Rattle.texts.specs.Form.{formed, named}
 use Rattle.texts.specs.declared.id.Id.{Id}
 use Rattle.values.specs.declared.field.Field.{Field}

@@ -1,3 +1,5 @@
+#![tactic(auto)]
+
 pub mod making;
 pub mod raw;
 pub mod report;
