@@ -1,2 +1,4 @@
+#![tactic(auto)]
+
 pub mod records;
 pub mod sink;
