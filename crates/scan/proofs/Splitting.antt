@@ -1,6 +1,6 @@
 -- A line read byte by byte.
-use Rattle.std.proofs.Common.{◌≡◌, ℕ, ◌+◌, ◌-◌, ◌<◌, ◌≤◌, Bool, true, false, cond, ◌&&◌, eqb, List, [], ◌∷◌, ◌++◌, map, length, get_or, take, drop, sym, refl, ap, ◌∙◌, arith, Bor}
-use Rattle.std.proofs.lemmas.List.{append_assoc, append_nil, map-append, take_more, take_all, at_drop_more, at_drop_all}
+use Rattle.std.proofs.Common.{◌≡◌, ℕ, ◌+◌, ◌-◌, ◌<◌, ◌≤◌, Bool, true, false, ◌&&◌, eqb, List, [], ◌∷◌, ◌++◌, map, length, get_or, take, drop, sym, refl, ap, ◌∙◌, arith, Bor}
+use Rattle.std.proofs.lemmas.List.{append_assoc, append-nil, map-append, take_more, take_all, at_drop_more, at_drop_all}
 use Rattle.std.proofs.lemmas.Bool.{cond-true, cond-false, eqb-false}
 use Rattle.std.specs.List.{between}
 use Rattle.std.proofs.lemmas.List.Edits.{between_more}
@@ -11,7 +11,7 @@ module _ (line : List ℕ) (fresh : Bool) (i : ℕ) (inside : i < length line) (
   now_at = sym (ap (λ l. take i line ++ l) (at_drop_more (bare fresh) line i 0 inside)) ∙ so_far
 
   pub cut_here : fresh && eqb (get_or line i 0) 35 ≡ true → take i line ≡ bare true line
-  cut_here e = sym (append_nil _) ∙ sym (ap (λ l. take i line ++ l) (cond-true _ _ _ e)) ∙ now_at
+  cut_here e = sym (append-nil _) ∙ sym (ap (λ l. take i line ++ l) (cond-true _ _ _ e)) ∙ now_at
 
   pub goes_on : fresh && eqb (get_or line i 0) 35 ≡ false → take (i + 1) line ++ bare (is_blank (get_or line i 0)) (drop (i + 1) line) ≡ bare true line
   goes_on e =
@@ -20,7 +20,7 @@ module _ (line : List ℕ) (fresh : Bool) (i : ℕ) (inside : i < length line) (
 
 pub ended : (line : List ℕ) (fresh : Bool) (i : ℕ) → length line ≤ i → take i line ++ bare fresh (drop i line) ≡ bare true line → line ≡ bare true line
 ended line fresh i h so_far =
-    sym (take_all i line h) ∙ sym (append_nil _) ∙ sym (ap (λ l. take i line ++ l) (at_drop_all (bare fresh) line i h)) ∙ so_far
+    sym (take_all i line h) ∙ sym (append-nil _) ∙ sym (ap (λ l. take i line ++ l) (at_drop_all (bare fresh) line i h)) ∙ so_far
 
 closed_some : (bs : List ℕ) → eqb (length bs) 0 ≡ false → bs ∷ [] ≡ closed bs
 closed_some [] e = absurd (eqb-false 0 0 e refl)
