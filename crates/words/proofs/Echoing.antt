@@ -1,7 +1,7 @@
 -- The echo of a command, word by word.
-use Rattle.std.proofs.Common.{◌≡◌, ℕ, ◌+◌, ◌<◌, ◌≤◌, Bool, true, false, cond, eqb, List, [], ◌∷◌, ◌++◌, map, length, get_or, drop, sym, refl, ap, ◌∙◌, arith, Bor}
+use Rattle.std.proofs.Common.{◌≡◌, ℕ, ◌+◌, ◌<◌, ◌≤◌, false, cond, eqb, List, [], ◌∷◌, ◌++◌, map, length, get_or, drop, sym, ap, ◌∙◌, arith, Bor}
 use Rattle.std.specs.List.{flat_map}
-use Rattle.std.proofs.lemmas.List.{append_assoc, append_nil, at_drop_more, at_drop_all}
+use Rattle.std.proofs.lemmas.List.{append_assoc, append-nil, at_drop_more, at_drop_all}
 use Rattle.std.proofs.lemmas.Bool.{ne_eqb}
 use Rattle.words.specs.Texts.{echoed_byte, echoed_from}
 
@@ -17,4 +17,4 @@ echoed_more ws i d s t all h so_far more =
     ∙ sym (ap (λ l. s ++ l) (at_drop_more (λ l. echoed_from (eqb i 0) (map (λ x. x.now) l)) ws i d h)) ∙ so_far
 
 pub echoed_all : (ws : List (Bor (List ℕ))) (i : ℕ) (s all : List ℕ) → length ws ≤ i → s ++ echoed_from (eqb i 0) (map (λ x. x.now) (drop i ws)) ≡ all → s ≡ all
-echoed_all ws i s all h so_far = sym (append_nil s) ∙ sym (ap (λ l. s ++ l) (at_drop_all (λ l. echoed_from (eqb i 0) (map (λ x. x.now) l)) ws i h)) ∙ so_far
+echoed_all ws i s all h so_far = sym (append-nil s) ∙ sym (ap (λ l. s ++ l) (at_drop_all (λ l. echoed_from (eqb i 0) (map (λ x. x.now) l)) ws i h)) ∙ so_far

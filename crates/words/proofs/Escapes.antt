@@ -1,6 +1,6 @@
 -- A text's word read byte by byte.
 use Rattle.std.proofs.Common.{◌≡◌, ℕ, ◌+◌, ◌<◌, ◌≤◌, Bool, true, false, cond, eqb, List, [], ◌∷◌, ◌++◌, length, drop, Some, None, Option, sym, refl, ap, ◌∙◌, arith}
-use Rattle.std.proofs.lemmas.List.{append_nil, length-drop, drop_all, drop-drop}
+use Rattle.std.proofs.lemmas.List.{append-nil, length-drop, drop_all, drop-drop}
 use Rattle.std.proofs.lemmas.Bool.{cond-true, cond-false}
 use Rattle.words.specs.Hex.{hex_byte, before}
 use Rattle.words.specs.Texts.{itself, taking, first_byte, unescaped, is_no_text, text_word}
@@ -46,7 +46,7 @@ module _ (out w : List ℕ) (i : ℕ) (so_far : after out (unescaped (drop i w))
       ∙ sym (ap (λ o. after out (led o rest)) some) ∙ here rest h e
 
   pub no_more : length w ≤ i → Some out ≡ unescaped w
-  no_more h = sym (ap Some (append_nil out)) ∙ sym (ap (λ l. after out (unescaped l)) (drop_all i w h)) ∙ so_far
+  no_more h = sym (ap Some (append-nil out)) ∙ sym (ap (λ l. after out (unescaped l)) (drop_all i w h)) ∙ so_far
 
 -- `%-` is the text of no bytes
 pub empty_text : (w : List ℕ) → is_no_text w ≡ true → Some [] ≡ text_word w

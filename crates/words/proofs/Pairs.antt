@@ -1,6 +1,6 @@
 -- Hex digits read two by two.
 use Rattle.std.proofs.Common.{◌≡◌, ℕ, ◌+◌, ◌<◌, ◌≤◌, List, [], ◌∷◌, ◌++◌, length, get_or, drop, Some, None, Option, sym, refl, ap, ◌∙◌, arith}
-use Rattle.std.proofs.lemmas.List.{append_assoc, append_nil, drop_more, drop_all}
+use Rattle.std.proofs.lemmas.List.{append_assoc, append-nil, drop_more, drop_all}
 use Rattle.words.specs.Hex.{before, hex_byte, hex_word}
 
 -- bytes that were read, and what the rest reads as
@@ -44,4 +44,4 @@ odd out xs i h g inv = sym (ap (λ l. after out (hex_word l)) (one_at xs i h g))
 -- nothing is left
 pub none_left : (out xs : List ℕ) (i : ℕ) → length xs ≤ i → after out (hex_word (drop i xs)) ≡ hex_word xs → Some out ≡ hex_word xs
 unfolding hex_word
-none_left out xs i h inv = sym (ap Some (append_nil out)) ∙ sym (ap (λ l. after out (hex_word l)) (drop_all i xs h)) ∙ inv
+none_left out xs i h inv = sym (ap Some (append-nil out)) ∙ sym (ap (λ l. after out (hex_word l)) (drop_all i xs h)) ∙ inv

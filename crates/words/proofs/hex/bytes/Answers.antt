@@ -4,15 +4,15 @@ use Rattle.words.specs.Hex.{hex_word}
 use Rattle.words.proofs.Pairs.{after, pair_none, pair_some, odd, none_left}
 use Rattle.words.proofs.hex.bytes.Goals as goal
 
-pub returns-in-default : goal.returns-in-default
-returns-in-default c =
-    pair_none (vec_items c.loop-i.out) _ c.loop-i.i (omega arith) (sym c.in-default.ensures) c.loop-i.invariant.1
+pub returns-in_default : goal.returns-in_default
+returns-in_default c =
+    pair_none (vec_items c.loop-i.out) _ c.loop-i.i (omega arith) (sym c.in_default.ensures) c.loop-i.invariant.1
 
 pub loop-i-preserved : goal.loop-i-preserved
 loop-i-preserved c =
     let w = c.args.word.now in
     let i = c.loop-i.i in
-    let more = pushed (c.in-Some.b ∷ []) refl c.in-ok-push.was c.push.ensures.items in
+    let more = pushed (c.in-Some.b ∷ []) refl c.in_ok-push.was c.push.ensures.items in
     (omega arith, ap (λ l. after l (hex_word (drop (i + 2) w))) more ∙ pair_some _ w i c.in-Some.b (omega arith) (sym c.in-Some.ensures) c.loop-i.invariant.1)
 
 pub returns-then-i-word : goal.returns-then-i-word

@@ -1,7 +1,0 @@
-use Rattle.words.proofs.Written.{two_pushed}
-use Rattle.words.proofs.hex.push.Goals as goal
-
-pub returns : goal.returns
-returns c =
-    two_pushed _ _ _ _ _ _ _ _ _ c.in-ok-push.ensures.bytes c.in-ok-push-2.ensures.bytes
-    (c.push.ensures.ascii c.digit-of.ensures.1) (c.push-2.ensures.ascii c.digit-of-2.ensures.1) c.digit-of.ensures.0 c.digit-of-2.ensures.0
