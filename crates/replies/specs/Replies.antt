@@ -1,5 +1,5 @@
 -- Answers as text.
-use Rattle.std.specs.Prelude.{◌≡◌, ℕ, Bool, true, false, cond, List, [], ◌∷◌, ◌++◌, length, Some, None, Ok, Err, codes, decimal, Option, Result, ◌==◌}
+use Rattle.std.specs.Prelude.{◌≡◌, ℕ, cond, List, [], ◌∷◌, ◌++◌, length, Some, None, Ok, Err, codes, decimal, Option, Result, ◌==◌}
 use Rattle.std.specs.List.{flat_map}
 use Rattle.reports.specs.Fields.{Fields}
 use Rattle.reports.specs.Bounds.{Refusal, blank}

@@ -1,2 +1,4 @@
+#![tactic(auto)]
+
 mod lines;
 pub mod reply;

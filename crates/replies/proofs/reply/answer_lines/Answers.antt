@@ -10,5 +10,5 @@ pub returns-in-Ok : goal.returns-in-Ok
 returns-in-Ok c =
     let q = request_of (map (λ x. x.now) c.args.words.now) in
     let a = came c.in-Ok.outcome in
-    IfOk-weaker c.outcome-lines.result (λ t. string_bytes t ≡ told a) (λ t. Says q (string_bytes t))
-    (λ t e. said q a (string_bytes t) c.in-Ok.ensures e) c.outcome-lines.ensures
+    IfOk-weaker c.outcome_lines.result (λ t. string_bytes t ≡ told a) (λ t. Says q (string_bytes t))
+    (λ t e. said q a (string_bytes t) c.in-Ok.ensures e) c.outcome_lines.ensures
