@@ -1,3 +1,5 @@
+#![tactic(auto)]
+
 use replies::reply::reply;
 use std::io;
 use std::io::{BufRead, BufReader, Write};
