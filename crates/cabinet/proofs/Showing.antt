@@ -1,25 +1,25 @@
 -- What the tables show after one of their rows has changed.
-use Rattle.std.proofs.Common.{◌≡◌, ℕ, suc, pred, ◌+◌, ◌≤◌, Bool, true, false, cond, not, ◌&&◌, eqb, ltb, List, [], ◌∷◌, length, set, is_some, Some, None, Option, sym, refl, ap, ◌∙◌, arith, length-set}
+use Rattle.std.proofs.Common.{◌≡◌, ℕ, suc, pred, ◌+◌, ◌≤◌, Bool, true, false, cond, not, ◌&&◌, eqb, ltb, List, [], ◌∷◌, length, is_some, Some, None, Option, sym, refl, ap, ◌∙◌, arith, length-set}
 use Rattle.std.specs.Option.{option_map, option_flatten}
 use Rattle.std.specs.Str.{bytes_eq}
 use Rattle.std.proofs.lemmas.Bool.{false≢true, cond-true, cond-false, and_left, and_right, and_from, lt-ltb, le-ltb, not_from_true, eqb-true}
-use Rattle.table.specs.Lookup.{bears, in_use, later, lookup, occupied, placed, position, row_at, row_found, vacant, Once}
-use Rattle.table.specs.Laws.{Full, OneMore, OneLess, Others}
+use Rattle.table.specs.Lookup.{bears, in_use, later, lookup, occupied, placed, position, row_at, row_found, vacant}
+use Rattle.table.specs.Laws.{OneMore, OneLess, Others}
 use Rattle.table.proofs.Places.{leads-position, count_most, length-placed}
 use Rattle.table.proofs.Frees.{full_leads}
 use Rattle.table.proofs.Keys.{lookup-leads}
 use Rattle.model.specs.Wafers.{Text, Wafer as Kept}
-use Rattle.model.specs.Places.{Plan, sites, listed, Contents, put_text, put_code}
+use Rattle.model.specs.Places.{Plan, sites, listed, put_text, put_code}
 use Rattle.texts.specs.Meaning.{called}
 use Rattle.values.specs.Values.{coded}
-use Rattle.rows.specs.declared.wafer.Wafer.{Wafer}
-use Rattle.rows.specs.declared.place.Place.{Place}
-use Rattle.rows.specs.Held.{held}
-use Rattle.rows.specs.Spots.{plan, spot_of, occupant_of}
-use Rattle.rows.specs.Views.{wafer_row, place_row, wafers_of, occupants_of, contents_of}
-use Rattle.rows.proofs.Views.{text_put, code_put, code-kept}
-use Rattle.rows.proofs.Plans.{plan-set, plan-listed}
-use Rattle.cabinet.specs.Views.{View, notes_of, view_of, with_contents, stored, inserted, removed, occupied_by, noted}
+use Rattle.wafers.specs.declared.wafer.Wafer.{Wafer}
+use Rattle.wafers.specs.declared.place.Place.{Place}
+use Rattle.wafers.specs.Held.{held}
+use Rattle.wafers.specs.Spots.{plan, spot_of, occupant_of}
+use Rattle.wafers.specs.Views.{wafer_row, place_row, wafers_of, occupants_of}
+use Rattle.wafers.proofs.Views.{text_put, code_put, code-kept}
+use Rattle.wafers.proofs.Plans.{plan-set, plan-listed}
+use Rattle.cabinet.specs.Views.{View, notes_of, view_of, stored, inserted, removed, occupied_by, noted}
 
 -- a row is found exactly if there is a position for it
 found_at : {R M : Type 0} (says : R → M) (tells : M → M → Bool) (rows : List (Option R)) (m : M) → occupied (lookup says tells rows m) ≡ is_some (position (bears says tells m) rows)

@@ -2,15 +2,15 @@
 use Rattle.std.proofs.Common.{◌≡◌, ℕ, Bool, true, false, cond, eqb, List, Some, None, Option, sym, refl, ap, ◌∙◌}
 use mathlib.Core.Path.{fun_ext}
 use Rattle.std.specs.Option.{option_map, option_flatten}
-use Rattle.std.proofs.lemmas.Bool.{false≢true, cond-true, cond-false, eqb-true}
+use Rattle.std.proofs.lemmas.Bool.{false≢true, eqb-true}
 use Rattle.table.specs.Lookup.{occupied}
 use Rattle.model.specs.Wafers.{Text}
 use Rattle.model.specs.Places.{sites, listed, put_code}
-use Rattle.rows.specs.declared.wafer.Wafer.{Wafer}
-use Rattle.rows.specs.declared.place.Place.{Place}
-use Rattle.rows.specs.Spots.{plan, occupant_of}
-use Rattle.rows.specs.Views.{place_row, occupants_of}
-use Rattle.rows.proofs.Plans.{plan-listed}
+use Rattle.wafers.specs.declared.wafer.Wafer.{Wafer}
+use Rattle.wafers.specs.declared.place.Place.{Place}
+use Rattle.wafers.specs.Spots.{plan, occupant_of}
+use Rattle.wafers.specs.Views.{place_row, occupants_of}
+use Rattle.wafers.proofs.Plans.{plan-listed}
 use Rattle.cabinet.specs.Views.{View, view_of, with_contents, occupied_by, vacated}
 
 put_none : (occ : ℕ → Option Text) (p : ℕ) → occ p ≡ None → put_code p None occ ≡ occ

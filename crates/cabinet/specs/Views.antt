@@ -1,13 +1,13 @@
 -- What the tables of one party show, and what each change makes of it.
-use Rattle.std.specs.Prelude.{ℕ, suc, pred, Bool, cond, not, ◌&&◌, List, length, Some, None, Option, nat_lt}
-use Rattle.std.specs.Option.{option_map, option_flatten}
-use Rattle.table.specs.Lookup.{in_use, occupied, vacant}
+use Rattle.std.specs.Prelude.{ℕ, suc, pred, cond, ◌&&◌, List, length, Some, None, Option, nat_lt}
+use Rattle.std.specs.Option.{option_map}
+use Rattle.table.specs.Lookup.{occupied, vacant}
 use Rattle.model.specs.Wafers.{Text, Wafer as Kept}
 use Rattle.model.specs.Places.{Plan, sites, listed, Contents, put_text, put_code}
-use Rattle.rows.specs.declared.wafer.Wafer.{Wafer}
-use Rattle.rows.specs.declared.place.Place.{Place}
-use Rattle.rows.specs.Spots.{plan}
-use Rattle.rows.specs.Views.{place_row, contents_of}
+use Rattle.wafers.specs.declared.wafer.Wafer.{Wafer}
+use Rattle.wafers.specs.declared.place.Place.{Place}
+use Rattle.wafers.specs.Spots.{plan}
+use Rattle.wafers.specs.Views.{place_row, contents_of}
 use Rattle.cabinet.specs.declared.cabinet.Cabinet.{Cabinet}
 
 -- the record, the place list, what is noted at each place, and the number of wafer rows

@@ -4,9 +4,9 @@ ghost use Rattle.table.specs.Lookup.{Once};
 ghost use Rattle.texts.specs.Meaning.{called};
 ghost use Rattle.values.specs.Values.{coded};
 
-use rows::place::Place;
-use rows::wafer::Wafer;
 use table::rows::Table;
+use wafers::place::Place;
+use wafers::wafer::Wafer;
 
 pub mod asking;
 pub mod changing;

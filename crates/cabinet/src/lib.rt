@@ -1,2 +1,4 @@
+#![tactic(auto)]
+
 pub mod cabinet;
 pub mod refusal;

@@ -1,4 +1,0 @@
-pub mod Fronts
-pub mod Going
-pub mod Plans
-pub mod Views

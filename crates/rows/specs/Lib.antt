@@ -1,5 +1,1 @@
 pub mod Kinds
-pub mod Stays
-pub mod Held
-pub mod Spots
-pub mod Views

@@ -1,6 +1,5 @@
-pub mod entry;
-pub mod history;
+#![tactic(auto)]
+
 pub mod kind;
 pub mod place;
-pub mod telling;
 pub mod wafer;

@@ -1,11 +1,9 @@
 -- The rows of a serving, one after the other.
-use Rattle.std.proofs.Common.{◌≡◌, ℕ, Bool, true, false, cond, ◌&&◌, List, [], ◌∷◌, ◌++◌, Some, None, Option, sym, refl, ap, ◌∙◌, subst, arith}
-use Rattle.std.proofs.lemmas.Bool.{false≢true, cond-true, cond-false}
+use Rattle.std.proofs.Common.{◌≡◌, ℕ, Bool, true, false, cond, ◌&&◌, List, ◌++◌, Some, None, Option, sym, refl, ap, ◌∙◌}
 use Rattle.model.specs.Wafers.{Text, Times, Wafer}
 use Rattle.model.specs.Places.{Sites, Contents}
-use Rattle.model.specs.Rows.{Change as Row, row8, row10, row11, row12, row13, row14, row17, row18, row19, row20, row21, Exit as Gone, Row as Any, change, leave, can, can_from, may_change, changed, may_leave, after, effect}
-use Rattle.model.specs.Steps.{Step, takes, tells, can_all, perform}
-use Rattle.model.specs.Calls.{leaving}
+use Rattle.model.specs.Rows.{Change as Row, row8, row10, row11, row12, row13, row14, row17, row18, row19, row20, row21, Exit as Gone, Row as Any, change, leave, can, can_from, may_change, changed, after, effect}
+use Rattle.model.specs.Steps.{Step, can_all, perform}
 use Rattle.model.proofs.Basics.{some_none, some_same}
 use Rattle.model.proofs.Performing.{own_wafer}
 use Rattle.tracker.specs.Served.{went, free_to_go, change_steps, exit_steps}

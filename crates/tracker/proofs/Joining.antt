@@ -1,5 +1,5 @@
 -- Reports that join the sink one after the other.
-use Rattle.std.proofs.Common.{◌≡◌, ℕ, ◌+◌, ◌≤◌, List, [], ◌∷◌, ◌++◌, length, sym, refl, ap, ◌∙◌, subst, append_assoc, arith, length-append}
+use Rattle.std.proofs.Common.{◌≡◌, ℕ, List, [], ◌∷◌, ◌++◌, sym, refl, ap, ◌∙◌, subst, append_assoc, arith, length-append}
 use Rattle.reports.specs.Fields.{Fields}
 use Rattle.tracker.specs.Wrote.{Wrote}
 

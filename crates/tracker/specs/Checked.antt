@@ -1,5 +1,5 @@
 -- Checks: what is known when one passes, and which refusal is given when it fails.
-use Rattle.std.specs.Prelude.{◌≡◌, ℕ, Bool, true, false, List, Some, None, Ok, Err, Option, Result}
+use Rattle.std.specs.Prelude.{◌≡◌, Bool, true, false, List, Some, None, Ok, Err, Result}
 use Rattle.model.specs.Calls.{Check, first_failed}
 use Rattle.cabinet.specs.declared.refusal.Refusal.{Refusal}
 use Rattle.cabinet.specs.Refusals.{refusal_number}

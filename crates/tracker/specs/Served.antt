@@ -1,14 +1,12 @@
 -- Services, and the rows that they take.
-use Rattle.std.specs.Prelude.{◌≡◌, ℕ, Bool, true, false, cond, eqb, List, [], ◌∷◌, ◌++◌, Some, None, Option}
+use Rattle.std.specs.Prelude.{◌≡◌, ℕ, Bool, true, false, cond, List, [], ◌∷◌, ◌++◌, Some, None, Option}
 use Rattle.std.specs.Option.{option_map}
 use Rattle.model.specs.Wafers.{Text, Wafer}
 use Rattle.model.specs.Places.{Sites}
 use Rattle.model.specs.Rows.{Change as Row, Exit as Gone, change, may_change, changed, may_leave}
 use Rattle.model.specs.Steps.{Step, takes}
-use Rattle.model.specs.Calls.{Service as Asked, start, skip, read-failed, proceed, cancel, unload, correct, missing, end, read, is_outcome, ending_row, leaving, served, well_ended}
+use Rattle.model.specs.Calls.{Service as Asked, start, skip, read_failed, proceed, cancel, unload, correct, missing, end, read, is_outcome, ending_row, leaving, served, well_ended}
 use Rattle.transitions.specs.Meant.{change_meant, exit_meant}
-use Rattle.transitions.specs.declared.change.Change.{Change}
-use Rattle.transitions.specs.declared.exit.Exit.{Exit}
 use Rattle.tracker.specs.declared.service.Service.{Service}
 use Rattle.tracker.specs.declared.service.Service.TheVariants as service
 use Rattle.tracker.specs.declared.service.Serving.{Serving}
@@ -18,7 +16,7 @@ service_meant service.Start = start
 service_meant (service.End o) = end o
 service_meant service.Skip = skip
 service_meant (service.Read a) = read a.now
-service_meant service.ReadFailed = read-failed
+service_meant service.ReadFailed = read_failed
 service_meant service.Proceed = proceed
 service_meant service.Cancel = cancel
 service_meant service.Unload = unload
@@ -29,7 +27,7 @@ service_meant service.Missing = missing
 abbrev pub read_text : Asked → Text
 read_text start = []
 read_text skip = []
-read_text read-failed = []
+read_text read_failed = []
 read_text proceed = []
 read_text cancel = []
 read_text unload = []

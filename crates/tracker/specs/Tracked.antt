@@ -4,8 +4,8 @@ use Rattle.std.specs.Option.{option_map, option_flatten}
 use Rattle.model.specs.Places.{Plan}
 use Rattle.model.specs.Calls.{Tracker as Held, Promise as Pledge}
 use Rattle.values.specs.Values.{moment}
-use Rattle.rows.specs.declared.place.Promise.{Promise}
-use Rattle.rows.specs.Spots.{pledge}
+use Rattle.wafers.specs.declared.place.Promise.{Promise}
+use Rattle.wafers.specs.Spots.{pledge}
 use Rattle.cabinet.specs.Views.{View, view}
 use Rattle.tracker.specs.declared.tracker.Tracker.{Tracker}
 

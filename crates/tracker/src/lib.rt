@@ -1,3 +1,5 @@
+#![tactic(auto)]
+
 pub mod service;
 pub mod tracker;
 mod writing;

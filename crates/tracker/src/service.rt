@@ -5,20 +5,20 @@ ghost use Rattle.model.specs.Rows.{row12, row14};
 ghost use Rattle.model.specs.Steps.{can_all};
 ghost use Rattle.model.specs.Wafers.{Times};
 ghost use Rattle.model.specs.Places.{Contents, Sites, station};
-ghost use Rattle.rows.specs.Held.{held};
+ghost use Rattle.wafers.specs.Held.{held};
 ghost use Rattle.texts.specs.Meaning.{called, spelled};
 ghost use Rattle.transitions.specs.Meant.{change_meant, exit_meant};
 ghost use Rattle.tracker.specs.Checked.{Passed};
 ghost use Rattle.tracker.specs.Served.{Planned, ended_by, free_to_go, read_text, service_meant, serving_steps, went};
 
 use cabinet::refusal::Refusal;
-use rows::wafer::Wafer;
 use texts::id::Id;
 use texts::text::Text;
 use transitions::change::{Change, reads_as};
 use transitions::exit::Exit;
 use transitions::states::is_in;
 use values::states::Processing;
+use wafers::wafer::Wafer;
 
 // A call on a registered wafer.
 #[derive(Clone, Copy)]

@@ -1,6 +1,6 @@
 use cabinet::cabinet::Cabinet;
-use rows::place::Promise;
 use values::time::Time;
+use wafers::place::Promise;
 
 mod checks;
 mod steps;

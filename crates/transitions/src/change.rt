@@ -1,17 +1,17 @@
 ghost use Rattle.std.specs.Prelude.{◌≡◌, Bool, ◌&&◌, ◌||◌, ◌==◌, nat_le};
 ghost use Rattle.model.specs.Places.{Sites, station};
 ghost use Rattle.model.specs.Rows.{change_number, may_change, changed, reads_as};
-ghost use Rattle.rows.specs.Held.{held};
+ghost use Rattle.wafers.specs.Held.{held};
 ghost use Rattle.texts.specs.Meaning.{called, spelled};
 ghost use Rattle.transitions.specs.Meant.{change_meant};
 ghost use Rattle.values.specs.Numbers.{processing_number, reading_number, transition_number};
 
 use crate::states::{is_at, is_in, is_read, is_steady};
-use rows::wafer::Wafer;
 use table::key::Key;
 use texts::text::Text;
 use values::states::{Processing, Reading, Transport};
 use values::transition::Transition;
+use wafers::wafer::Wafer;
 
 // The rows that change states alone, with what each is given.
 #[derive(Clone, Copy)]

@@ -1,13 +1,13 @@
 ghost use Rattle.std.specs.Prelude.{◌≡◌};
 ghost use Rattle.model.specs.Rows.{exit_number, may_leave};
-ghost use Rattle.rows.specs.Held.{held};
+ghost use Rattle.wafers.specs.Held.{held};
 ghost use Rattle.transitions.specs.Meant.{exit_meant};
 ghost use Rattle.values.specs.Numbers.{transition_number};
 
 use crate::states::{is_at, is_complete, is_in, is_steady};
-use rows::wafer::Wafer;
 use values::states::{Processing, Transport};
 use values::transition::Transition;
+use wafers::wafer::Wafer;
 
 // The rows by which a wafer goes.
 #[derive(Clone, Copy)]

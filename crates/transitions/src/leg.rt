@@ -3,16 +3,16 @@ ghost use Rattle.std.specs.Option.{option_map};
 ghost use Rattle.model.specs.Calls.{fitting};
 ghost use Rattle.model.specs.Places.{Sites, station};
 ghost use Rattle.model.specs.Rows.{leg_number, to_transport};
-ghost use Rattle.rows.specs.Held.{held};
+ghost use Rattle.wafers.specs.Held.{held};
 ghost use Rattle.transitions.specs.Meant.{leg_meant};
 ghost use Rattle.values.specs.Numbers.{transition_number, transport_number};
 ghost use Rattle.values.specs.Values.{coded};
 
 use crate::states::{is_complete, is_in, is_steady};
-use rows::wafer::Wafer;
 use values::code::Code;
 use values::states::{Processing, Transport};
 use values::transition::Transition;
+use wafers::wafer::Wafer;
 
 // The rows by which a wafer moves.
 #[derive(Clone, Copy)]

@@ -1,5 +1,5 @@
 -- One report more is told.
-use Rattle.std.proofs.Common.{◌≡◌, List, [], ◌∷◌, ◌++◌, Some, None, Option, sym, refl, ap, ◌∙◌, append_assoc}
+use Rattle.std.proofs.Common.{◌≡◌, List, [], ◌∷◌, ◌++◌, Some, Option, refl, ap, ◌∙◌, append_assoc}
 use Rattle.reports.specs.Fields.{Fields}
 use Rattle.trials.specs.Told.{last_of, told_since}
 

@@ -1,5 +1,5 @@
 -- What a sink that passes reports on has told since.
-use Rattle.std.specs.Prelude.{◌≡◌, List, [], ◌∷◌, ◌++◌, Some, None, Option}
+use Rattle.std.specs.Prelude.{◌≡◌, List, [], ◌∷◌, ◌++◌, Some, Option}
 use Rattle.reports.specs.Fields.{Fields}
 
 -- the last of these reports, or the one before them

@@ -1,3 +1,5 @@
+#![tactic(auto)]
+
 // Tests of the crates below, in one place, so that those are proved once.
 #[cfg(test)]
 mod logs;
@@ -10,4 +12,3 @@ mod tables;
 pub mod telling;
 #[cfg(test)]
 mod texting;
-pub mod visiting;

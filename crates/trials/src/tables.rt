@@ -1,18 +1,23 @@
 use rows::kind::Kind;
-use rows::place::{Place, Promise};
+use rows::place::Place;
 use rows::wafer::Wafer;
 use std::test::Fail;
 use table::rows::Table;
 use texts::id::Id;
 use texts::text::Text;
 use values::code::Code;
-use values::time::Time;
+use values::states::{Processing, Reading, Transport};
 
-fn place(number: u16) -> Result<Place<Option<Promise>>, Fail> {
+fn place(number: u16) -> Result<Place, Fail> {
     let Some(code) = Code::new(number) else {
         return Err(Fail::new("a code"));
     };
-    Ok(Place::listed(code, Kind::Slot, None))
+    Ok(Place {
+        code,
+        kind: Kind::Slot,
+        occupant: None,
+        promise: None,
+    })
 }
 
 fn text(bytes: &[u8]) -> Result<Text, Fail> {
@@ -29,10 +34,16 @@ fn wafer(id: &[u8], number: u16) -> Result<Wafer, Fail> {
     let Some(place) = Code::new(number) else {
         return Err(Fail::new("a code"));
     };
-    let Some(time) = Time::new(0) else {
-        return Err(Fail::new("a time"));
-    };
-    Ok(Wafer::registered(id, place, place, time))
+    Ok(Wafer {
+        id,
+        place,
+        source: place,
+        destination: place,
+        transport: Transport::AtSource,
+        processing: Processing::NoneYet,
+        reading: Reading::NotUsed,
+        acquired: Text::empty(),
+    })
 }
 
 // The code of the place where a wafer is, or 0.
@@ -45,7 +56,7 @@ fn at(wafers: &Table<Wafer>, id: &[u8]) -> Result<u16, Fail> {
 
 #[test]
 fn no_rows(rt: HostRuntime) -> Result<(), Fail> {
-    let mut none: [Option<Place<Option<Promise>>>; 0] = [];
+    let mut none: [Option<Place>; 0] = [];
     let mut table = Table::new(&mut none);
     assert_eq!(rt; table.insert(place(1)?), None);
     assert!(rt; table.lookup(&1).is_none());

@@ -33,7 +33,7 @@ impl<S: Sink> Sink for Telling<S> {
 
 // Code that knows only a sink.
 pub fn twice<S: Sink>(sink: &mut S, report: Report)
-    ensures { (earlier : S) → since earlier sink.old → since earlier sink.new }
+    ensures { (earlier : S) → S.since earlier sink.old → S.since earlier sink.new }
 {
     let _ = sink.put(report);
     let _ = sink.put(report);
@@ -41,7 +41,7 @@ pub fn twice<S: Sink>(sink: &mut S, report: Report)
 
 // Through that code, what the other one remembers is what the list says.
 pub fn passes_on<S: Sink>(telling: &mut Telling<S>, report: Report)
-    ensures { told_since (list telling.old.sink) (option_map shown telling.old.last) (list telling.new.sink) (option_map shown telling.new.last) }
+    ensures { told_since (S.list telling.old.sink) (option_map shown telling.old.last) (S.list telling.new.sink) (option_map shown telling.new.last) }
 {
     twice(telling, report);
 }

@@ -1,15 +1,15 @@
 ghost use Rattle.std.specs.Prelude.{◌≡◌, IfSome, nat_lt};
 ghost use Rattle.std.specs.Option.{option_map, option_flatten};
 ghost use Rattle.model.specs.Places.{sites, listed, index, station};
-ghost use Rattle.rows.specs.Held.{held};
-ghost use Rattle.rows.specs.Spots.{spot_of, occupant_of};
+ghost use Rattle.wafers.specs.Held.{held};
+ghost use Rattle.wafers.specs.Spots.{spot_of, occupant_of};
 ghost use Rattle.texts.specs.Meaning.{called};
 ghost use Rattle.cabinet.specs.Views.{view};
 
 use crate::cabinet::Cabinet;
-use rows::place::Place;
-use rows::wafer::Wafer;
 use texts::id::Id;
+use wafers::place::Place;
+use wafers::wafer::Wafer;
 
 impl<'a, N: Copy> Cabinet<'a, N> {
     // The wafer with an ID.

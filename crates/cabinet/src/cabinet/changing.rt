@@ -1,15 +1,15 @@
 ghost use Rattle.std.specs.Prelude.{◌≡◌};
 ghost use Rattle.std.specs.Option.{option_map};
-ghost use Rattle.rows.specs.Held.{held};
+ghost use Rattle.wafers.specs.Held.{held};
 ghost use Rattle.texts.specs.Meaning.{called};
 ghost use Rattle.values.specs.Values.{coded};
 ghost use Rattle.cabinet.specs.Views.{view, stored, inserted, removed, occupied_by, noted};
 
 use crate::cabinet::Cabinet;
-use rows::place::Place;
-use rows::wafer::Wafer;
 use texts::id::Id;
 use values::code::Code;
+use wafers::place::Place;
+use wafers::wafer::Wafer;
 
 impl<'a, N: Copy> Cabinet<'a, N> {
     // A registered wafer's row holds this.

@@ -4,15 +4,15 @@ ghost use Rattle.texts.specs.Form.{named};
 ghost use Rattle.texts.specs.Meaning.{called};
 ghost use Rattle.table.specs.Lookup.{occupied};
 ghost use Rattle.values.specs.Values.{moment};
-ghost use Rattle.rows.specs.Held.{held};
+ghost use Rattle.wafers.specs.Held.{held};
 ghost use Rattle.tracker.specs.Tracked.{plan_of, tracked};
 ghost use Rattle.tracker.specs.Checked.{Passed, Passes};
 
 use crate::tracker::Tracker;
 use cabinet::refusal::Refusal;
-use rows::wafer::Wafer;
 use texts::id::Id;
 use values::time::Time;
+use wafers::wafer::Wafer;
 
 // The ID of the given bytes.
 pub(crate) fn id_of(given: &[u8]) -> Result<Id, Refusal>

@@ -6,18 +6,18 @@ ghost use Rattle.texts.specs.Meaning.{called};
 ghost use Rattle.transitions.specs.Meant.{change_meant, exit_meant};
 ghost use Rattle.values.specs.Values.{moment};
 ghost use Rattle.cabinet.specs.Views.{with_contents};
-ghost use Rattle.rows.specs.Held.{held};
+ghost use Rattle.wafers.specs.Held.{held};
 ghost use Rattle.tracker.specs.Tracked.{tables, tracked};
 ghost use Rattle.tracker.specs.Wrote.{Wrote};
 
 use crate::tracker::Tracker;
 use crate::writing::{tell, write};
-use rows::telling::occupancy;
-use rows::wafer::Wafer;
 use sinks::sink::Sink;
 use transitions::change::Change;
 use transitions::exit::Exit;
 use values::time::Time;
+use wafers::telling::occupancy;
+use wafers::wafer::Wafer;
 
 impl<'a> Tracker<'a> {
     // The wafer takes a row that changes its states, and this is reported.
@@ -29,11 +29,11 @@ impl<'a> Tracker<'a> {
         time: Time,
     ) -> Wafer
         requires there { (tables self.old).contents.wafer (called wafer.id) ≡ Some (held wafer) }
-        requires room { 1 ≤ room sink.old }
+        requires room { 1 ≤ S.room sink.old }
         ensures tables { tables self.new ≡ with_contents (effect (at_time (moment time)) (called wafer.id) (by_change (change_meant change)) (tables self.old).contents) (tables self.old) }
         ensures latest { self.new.latest ≡ self.old.latest }
-        ensures wrote { Wrote (substrate_report (change_number (change_meant change)) (at_time (moment time)) (called wafer.id) (changed (change_meant change) (held wafer)) ∷ []) (list sink.old) (room sink.old) (list sink.new) (room sink.new) }
-        ensures since { (earlier : S) → since earlier sink.old → since earlier sink.new }
+        ensures wrote { Wrote (substrate_report (change_number (change_meant change)) (at_time (moment time)) (called wafer.id) (changed (change_meant change) (held wafer)) ∷ []) (S.list sink.old) (S.room sink.old) (S.list sink.new) (S.room sink.new) }
+        ensures since { (earlier : S) → S.since earlier sink.old → S.since earlier sink.new }
         ensures wafer { held result ≡ changed (change_meant change) (held wafer) }
         ensures id { result.id ≡ wafer.id }
     {
@@ -53,11 +53,11 @@ impl<'a> Tracker<'a> {
         time: Time,
     )
         requires there { (tables self.old).contents.wafer (called wafer.id) ≡ Some (held wafer) }
-        requires room { (if quiet then 0 else 1) + 1 ≤ room sink.old }
+        requires room { (if quiet then 0 else 1) + 1 ≤ S.room sink.old }
         ensures tables { tables self.new ≡ with_contents (effect (at_time (moment time)) (called wafer.id) (by_exit (exit_meant exit)) (tables self.old).contents) (tables self.old) }
         ensures latest { self.new.latest ≡ self.old.latest }
-        ensures wrote { Wrote ((if quiet then [] else location_report (at_time (moment time)) (held wafer).place None ∷ []) ++ (substrate_report (exit_number (exit_meant exit)) (at_time (moment time)) (called wafer.id) (held wafer) ∷ [])) (list sink.old) (room sink.old) (list sink.new) (room sink.new) }
-        ensures since { (earlier : S) → since earlier sink.old → since earlier sink.new }
+        ensures wrote { Wrote ((if quiet then [] else location_report (at_time (moment time)) (held wafer).place None ∷ []) ++ (substrate_report (exit_number (exit_meant exit)) (at_time (moment time)) (called wafer.id) (held wafer) ∷ [])) (S.list sink.old) (S.room sink.old) (S.list sink.new) (S.room sink.new) }
+        ensures since { (earlier : S) → S.since earlier sink.old → S.since earlier sink.new }
     {
         self.cabinet.remove(&wafer.id);
         self.cabinet.vacate(wafer.place);

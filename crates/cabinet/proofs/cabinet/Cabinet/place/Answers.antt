@@ -1,9 +1,9 @@
 use Rattle.std.proofs.Common.{◌≡◌, Option, sym, ap, ◌∙◌}
 use Rattle.std.specs.Option.{option_map, option_flatten}
-use Rattle.rows.specs.declared.place.Place.{Place}
-use Rattle.rows.specs.Spots.{spot_of, occupant_of}
-use Rattle.rows.specs.Views.{place_row}
-use Rattle.rows.proofs.Plans.{plan-sites}
+use Rattle.wafers.specs.declared.place.Place.{Place}
+use Rattle.wafers.specs.Spots.{spot_of, occupant_of}
+use Rattle.wafers.specs.Views.{place_row}
+use Rattle.wafers.proofs.Plans.{plan-sites}
 use Rattle.cabinet.proofs.cabinet.Cabinet.place.Goals as goal
 
 pub returns : goal.returns

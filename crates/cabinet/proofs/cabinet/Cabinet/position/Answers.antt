@@ -1,5 +1,5 @@
 use Rattle.std.proofs.Common.{sym, ◌∙◌}
-use Rattle.rows.proofs.Plans.{plan-index}
+use Rattle.wafers.proofs.Plans.{plan-index}
 use Rattle.cabinet.proofs.cabinet.Cabinet.position.Goals as goal
 
 pub returns : goal.returns

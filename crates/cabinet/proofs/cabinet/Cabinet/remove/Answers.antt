@@ -1,14 +1,14 @@
-use Rattle.std.proofs.Common.{◌≡◌, sym, refl, ap, ◌∙◌, subst}
+use Rattle.std.proofs.Common.{sym, refl, ap, ◌∙◌, subst}
 use Rattle.std.specs.Str.{bytes_eq}
 use Rattle.table.specs.Laws.{Others}
 use Rattle.table.specs.Lookup.{bears, position}
 use Rattle.texts.specs.Meaning.{called, spelled}
-use Rattle.rows.specs.Views.{wafer_row}
+use Rattle.wafers.specs.Views.{wafer_row}
 use Rattle.cabinet.proofs.Showing.{removed_shows}
 use Rattle.cabinet.proofs.cabinet.Cabinet.remove.Goals as goal
 
-pub invariant-of-self : goal.invariant-of-self
-invariant-of-self g c = let a = c.args.self.now in (c.remove.ensures.once a.ids, (a.codes, tt))
+pub invariant_of-self : goal.invariant_of-self
+invariant_of-self g c = let a = c.args.self.now in record { ids = c.remove.ensures.once a.ids; codes = a.codes }
 
 pub returns : goal.returns
 returns g c =
@@ -20,7 +20,7 @@ returns g c =
       view = removed_shows before after a.places.rows.now (called c.args.id.now) c.remove.result (position (bears (λ v. called v.id) bytes_eq (spelled c.text.result)) before)
           (c.remove.ensures.value ∙ ap (λ t. wafer_row before (spelled t)) k)
           c.remove.ensures.rows c.remove.ensures.used
-          (sym (ap (λ t. wafer_row after (spelled t)) k) ∙ c.remove.ensures.own_val a.ids)
+          (sym (ap (λ t. wafer_row after (spelled t)) k) ∙ c.remove.ensures.own a.ids)
           (subst (λ t. Others (λ v. called v.id) bytes_eq (spelled t) before after) k c.remove.ensures.others);
       wafers = c.remove.ensures.lender;
       places = refl;

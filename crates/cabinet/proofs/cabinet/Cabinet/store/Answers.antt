@@ -1,16 +1,16 @@
-use Rattle.std.proofs.Common.{◌≡◌, sym, refl, ap, ◌∙◌, subst}
+use Rattle.std.proofs.Common.{sym, refl, ap, ◌∙◌, subst}
 use Rattle.std.specs.Str.{bytes_eq}
 use Rattle.table.specs.Lookup.{bears, position}
 use Rattle.table.specs.Laws.{Others}
 use Rattle.texts.specs.Meaning.{called, spelled}
-use Rattle.rows.specs.Views.{wafer_row}
+use Rattle.wafers.specs.Views.{wafer_row}
 use Rattle.cabinet.proofs.Showing.{stored_shows}
 use Rattle.cabinet.proofs.cabinet.Cabinet.store.Goals as goal
 
-pub invariant-of-self : goal.invariant-of-self
-invariant-of-self g c =
+pub invariant_of-self : goal.invariant_of-self
+invariant_of-self g c =
     let a = c.args.self.now in
-    (c.replace.ensures.once (ap spelled (sym c.text.ensures)) a.ids, (a.codes, tt))
+    record { ids = c.replace.ensures.once (ap spelled (sym c.text.ensures)) a.ids; codes = a.codes }
 
 pub returns : goal.returns
 returns g c =
@@ -22,7 +22,7 @@ returns g c =
       view = stored_shows before after c.args.self.now.places.rows.now w c.replace.result
           (c.replace.ensures.value ∙ ap (λ t. position (bears (λ v. called v.id) bytes_eq (spelled t)) before) k)
           c.replace.ensures.rows c.replace.ensures.used
-          (λ h. sym (ap (λ t. wafer_row after (spelled t)) k) ∙ c.replace.ensures.own_val h (ap spelled (sym k)))
+          (λ h. sym (ap (λ t. wafer_row after (spelled t)) k) ∙ c.replace.ensures.own h (ap spelled (sym k)))
           (subst (λ t. Others (λ v. called v.id) bytes_eq (spelled t) before after) k (c.replace.ensures.others (ap spelled (sym k))));
       wafers = c.replace.ensures.lender;
       places = refl;

@@ -5,7 +5,7 @@ use Rattle.model.specs.Rows.{exit_number}
 use Rattle.model.specs.Wafers.{Times, at_time}
 use Rattle.texts.specs.Meaning.{called}
 use Rattle.values.specs.Values.{moment, coded}
-use Rattle.rows.specs.Held.{held}
+use Rattle.wafers.specs.Held.{held}
 use Rattle.transitions.specs.Meant.{exit_meant}
 use Rattle.cabinet.specs.Views.{vacated}
 use Rattle.tracker.specs.Tracked.{tables}

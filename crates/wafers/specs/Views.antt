@@ -8,11 +8,11 @@ use Rattle.model.specs.Places.{Contents}
 use Rattle.model.specs.Wafers.{Text, Wafer as Kept}
 use Rattle.texts.specs.Meaning.{called}
 use Rattle.values.specs.Values.{coded}
-use Rattle.rows.specs.Held.{held}
-use Rattle.rows.specs.Spots.{occupant_of, promise_of}
-use Rattle.rows.specs.declared.place.Place.{Place}
-use Rattle.rows.specs.declared.place.Promise.{Promise}
-use Rattle.rows.specs.declared.wafer.Wafer.{Wafer}
+use Rattle.wafers.specs.Held.{held}
+use Rattle.wafers.specs.Spots.{occupant_of, promise_of}
+use Rattle.wafers.specs.declared.place.Place.{Place}
+use Rattle.wafers.specs.declared.place.Promise.{Promise}
+use Rattle.wafers.specs.declared.wafer.Wafer.{Wafer}
 
 -- the row of a wafer, and of a place
 abbrev pub wafer_row : List (Option Wafer) → Text → Option Wafer

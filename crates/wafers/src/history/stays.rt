@@ -2,7 +2,7 @@ ghost use Rattle.std.specs.Prelude.{◌≡◌, ◌+◌, ◌<◌, ◌≤◌, [], 
 ghost use Rattle.std.specs.List.{slice_get};
 ghost use Rattle.std.specs.Option.{option_map};
 ghost use Rattle.model.specs.Wafers.{at_time, closed, moved_on, opened as stay_opened};
-ghost use Rattle.rows.specs.Stays.{stay, stays};
+ghost use Rattle.wafers.specs.Stays.{stay, stays};
 ghost use Rattle.values.specs.Values.{coded, moment};
 
 use crate::entry::Entry;

@@ -3,8 +3,8 @@ use Rattle.model.specs.Wafers.{Wafer as Kept}
 use Rattle.texts.specs.Meaning.{spelled}
 use Rattle.values.specs.Numbers.{transport_number, processing_number, reading_number}
 use Rattle.values.specs.Values.{coded}
-use Rattle.rows.specs.Stays.{stays}
-use Rattle.rows.specs.declared.wafer.Wafer.{Wafer}
+use Rattle.wafers.specs.Stays.{stays}
+use Rattle.wafers.specs.declared.wafer.Wafer.{Wafer}
 
 abbrev pub held : Wafer → Kept
 held w = record {

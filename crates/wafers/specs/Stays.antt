@@ -3,8 +3,8 @@ use Rattle.std.specs.Prelude.{List, map, take}
 use Rattle.std.specs.Option.{option_map}
 use Rattle.model.specs.Wafers.{Stay}
 use Rattle.values.specs.Values.{coded, moment}
-use Rattle.rows.specs.declared.entry.Entry.{Entry}
-use Rattle.rows.specs.declared.history.History.{History}
+use Rattle.wafers.specs.declared.entry.Entry.{Entry}
+use Rattle.wafers.specs.declared.history.History.{History}
 
 abbrev pub stay : Entry → Stay
 stay e = record { place = coded e.place; entered = moment e.time_in; left = option_map moment e.time_out }

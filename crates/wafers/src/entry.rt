@@ -1,6 +1,6 @@
 ghost use Rattle.std.specs.Prelude.{◌≡◌};
 ghost use Rattle.model.specs.Wafers.{ended as stay_ended, opened as stay_opened};
-ghost use Rattle.rows.specs.Stays.{stay};
+ghost use Rattle.wafers.specs.Stays.{stay};
 ghost use Rattle.values.specs.Values.{coded, moment};
 
 use values::code::Code;

@@ -1,3 +1,5 @@
+#![tactic(auto)]
+
 ghost use Rattle.std.specs.Prelude.{◌≡◌, true, IfOk};
 ghost use Rattle.settings.specs.Making.{switch_there};
 ghost use Rattle.settings.specs.Meaning.{switches};

@@ -7,8 +7,8 @@ use Rattle.model.specs.Wafers.{Text}
 use Rattle.texts.specs.Meaning.{called}
 use Rattle.values.specs.Values.{coded}
 use Rattle.rows.specs.Kinds.{kind_number}
-use Rattle.rows.specs.declared.place.Place.{Place}
-use Rattle.rows.specs.declared.place.Promise.{Promise}
+use Rattle.wafers.specs.declared.place.Place.{Place}
+use Rattle.wafers.specs.declared.place.Promise.{Promise}
 
 abbrev pub listed_as : ℕ → ℕ → Spot
 listed_as c k = record { code = c; kind = k }

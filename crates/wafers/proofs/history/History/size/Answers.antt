@@ -1,7 +1,7 @@
 use Rattle.std.proofs.Common.{sym, refl, arith}
-use Rattle.rows.specs.Stays.{stay}
-use Rattle.rows.proofs.Fronts.{front_length}
-use Rattle.rows.proofs.history.History.size.Goals as goal
+use Rattle.wafers.specs.Stays.{stay}
+use Rattle.wafers.proofs.Fronts.{front_length}
+use Rattle.wafers.proofs.history.History.size.Goals as goal
 
 pub returns : goal.returns
 returns c =

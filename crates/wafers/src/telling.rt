@@ -3,7 +3,7 @@ ghost use Rattle.std.specs.Option.{option_map};
 ghost use Rattle.model.specs.Reporting.{location_report, substrate_report};
 ghost use Rattle.model.specs.Wafers.{at_time};
 ghost use Rattle.reports.specs.Fields.{shown};
-ghost use Rattle.rows.specs.Held.{held};
+ghost use Rattle.wafers.specs.Held.{held};
 ghost use Rattle.texts.specs.Meaning.{called};
 ghost use Rattle.values.specs.Numbers.{transition_number};
 ghost use Rattle.values.specs.Values.{coded, moment};

@@ -1,0 +1,4 @@
+pub mod Fronts
+pub mod Going
+pub mod Plans
+pub mod Views

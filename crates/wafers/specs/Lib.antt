@@ -1,0 +1,4 @@
+pub mod Stays
+pub mod Held
+pub mod Spots
+pub mod Views
