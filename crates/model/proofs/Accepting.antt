@@ -1,20 +1,17 @@
 -- What an accepted call brings: rows that can be taken, room for them at the mirror, and promises that still stand.
-use Rattle.std.proofs.Common.{◌≡◌, ℕ, suc, pred, ◌<◌, ◌≤◌, Bool, true, false, cond, not, ◌&&◌, ◌||◌, eqb, ltb, leb, ◌⊎◌, List, [], ◌∷◌, ◌++◌, length, Some, None, Option, sym, refl, ap, ◌∙◌, subst, subst₂, inl, inr, le_refl, arith}
+use Rattle.std.proofs.Common.{◌≡◌, ℕ, pred, ◌<◌, ◌≤◌, Bool, true, false, cond, not, ◌&&◌, eqb, leb, List, [], ◌∷◌, ◌++◌, length, Some, None, Option, sym, refl, ap, ◌∙◌, subst, subst₂, le_refl, arith}
 use Rattle.std.specs.Str.{bytes_eq}
 use Rattle.std.proofs.lemmas.Bool.{false≢true, both_ways, not-true, and_parts, and_from, eqb-true, leb-true, ltb-true, lt-ltb}
 use Rattle.std.proofs.lemmas.Bool.Decides.{nat_tests as testing}
-use Rattle.reports.specs.Fields.{Fields}
 use Rattle.table.specs.Lookup.{vacant, occupied}
 use Rattle.model.specs.Wafers.{Text, Times, at_time, Wafer}
 use Rattle.model.specs.Places.{Plan, Sites, sites, listed, Contents, put_code}
 use Rattle.model.specs.Switches.{Switches}
-use Rattle.model.specs.Rows.{Leg, Change, row8, row10, row11, row12, row13, row14, row17, row18, row19, row20, row21, changed, Exit, row7, row9, Row, enter, move, leave, change, can, can_from, after, used_after, place_of, effect}
-use Rattle.model.specs.Mirroring.{has_row}
+use Rattle.model.specs.Rows.{Leg, Change, row8, row10, row11, row12, row13, row14, row17, row18, row19, row20, row21, Exit, row7, row9, Row, enter, move, leave, change, can_from, after, place_of, effect}
 use Rattle.model.specs.Steps.{Step, takes, tells, can_all, perform}
-use Rattle.model.specs.Calls.{Promise, Grant, Tracker, Service, start, skip, read-failed, proceed, cancel, unload, correct, missing, end, read, Call, register, lift, set_down, put_back, serve, fitting, processing_of, entries_of, promised_to, granted, initial_reading, destination_of, registering, moving, losing, leaving, ending_row, reading_row, serving, served, steps_of, time_of, times_of, promise_after, Check, first_failed, needs_no_grant, well_ended, checks_of, room_refused, or_else, refusal, due}
+use Rattle.model.specs.Calls.{Promise, Grant, Tracker, Service, start, skip, read_failed, proceed, cancel, unload, correct, missing, end, read, Call, register, lift, set_down, put_back, serve, fitting, processing_of, promised_to, granted, initial_reading, destination_of, registering, moving, losing, leaving, ending_row, serving, served, steps_of, time_of, times_of, promise_after, Check, first_failed, needs_no_grant, well_ended, checks_of, room_refused, or_else, refusal, due}
 use Rattle.model.specs.Runs.{Each, Housed, Sound}
-use Rattle.model.proofs.Basics.{same_tells, same_true, same_refl, same_false, some_none, some_same, vacant-none, occupied_some}
-use Rattle.model.proofs.Single.{each_at}
+use Rattle.model.proofs.Basics.{same_true, same_refl, same_false, some_none, some_same, vacant-none}
 use Rattle.model.proofs.Performing.{own_wafer, told_places, tells-listed, rooms}
 use Rattle.model.proofs.Promises.{to, Ready, Kept, moving-can, avoid_all, ready_other, mild_change, mild_all, ready_mild, granted-listed}
 
@@ -94,7 +91,7 @@ plain_cancel id pr = go (eqb pr 0)
 plain_serving : (s : Service) (id : Text) (pr from : ℕ) → plain_all id (serving s id pr from) ≡ true
 plain_serving start id pr from = one id true refl
 plain_serving skip id pr from = one id true refl
-plain_serving read-failed id pr from = one id true refl
+plain_serving read_failed id pr from = one id true refl
 plain_serving proceed id pr from = one id true refl
 plain_serving cancel id pr from = one id _ (plain_cancel id pr)
 plain_serving unload id pr from = plain_leaving id from row7
@@ -121,7 +118,7 @@ mild_ending o v = go (eqb o 0) refl
 mild_serving : (s : Service) (id : Text) (pr from : ℕ) → needs_no_grant s ≡ false → well_ended s ≡ true → mild_all id (serving s id pr from) ≡ true
 mild_serving start id pr from g v = absurd (false≢true (sym g))
 mild_serving skip id pr from g v = one id true refl
-mild_serving read-failed id pr from g v = one id true refl
+mild_serving read_failed id pr from g v = one id true refl
 mild_serving proceed id pr from g v = one id true refl
 mild_serving cancel id pr from g v = one id _ (mild_cancel id pr)
 mild_serving unload id pr from g v = absurd (false≢true (sym g))
@@ -350,7 +347,7 @@ cancel_told t id pr c p = go (eqb pr 0)
 serving-told : (s : Service) (t : Times) (id : Text) (pr : ℕ) (c : Contents) (p : ℕ) → told_places (serving s id pr (place_of (c.wafer id))) c.occupant p ≡ (perform t c (serving s id pr (place_of (c.wafer id)))).occupant p
 serving-told start t id pr c p = refl
 serving-told skip t id pr c p = refl
-serving-told read-failed t id pr c p = refl
+serving-told read_failed t id pr c p = refl
 serving-told proceed t id pr c p = refl
 serving-told cancel t id pr c p = cancel_told t id pr c p
 serving-told unload t id pr c p = refl
@@ -374,7 +371,7 @@ cancel_listed at id false = tt
 serving-listed : (at : Sites) (s : Service) (id : Text) (pr from : ℕ) → listed at from ≡ true → tells-listed at (serving s id pr from)
 serving-listed at start id pr from h = tt
 serving-listed at skip id pr from h = tt
-serving-listed at read-failed id pr from h = tt
+serving-listed at read_failed id pr from h = tt
 serving-listed at proceed id pr from h = tt
 serving-listed at cancel id pr from h = cancel_listed at id (eqb pr 0)
 serving-listed at unload id pr from h = (h, tt)

@@ -12,7 +12,7 @@ use Rattle.model.specs.Reporting.{substrate_report}
 use Rattle.model.specs.Rows.{leg_number, to_transport, fits, steady, reads_as, Change, row8, row11, row12, row13, row14, row17, row18, row19, row20, row21, change_number, changed, row7, row9, Row, leave, change, row_number, can, can_from, after, place_of, effect, standing}
 use Rattle.model.specs.Mirroring.{row_of}
 use Rattle.model.specs.Steps.{Step, takes, can_all}
-use Rattle.model.specs.Calls.{Tracker, Service, start, skip, read-failed, proceed, cancel, unload, correct, missing, end, read, Call, register, lift, set_down, put_back, serve, done, refused, fitting, processing_of, entries_of, granted, leaving, reading_row, ending_row, served, Check, check, first_failed, timely, open_at, needs_no_grant, well_read, is_outcome, well_ended, checks_of, due, room_refused, or_else, refusal, answer_of, resolved, outcome}
+use Rattle.model.specs.Calls.{Tracker, Service, start, skip, read_failed, proceed, cancel, unload, correct, missing, end, read, Call, register, lift, set_down, put_back, serve, done, refused, fitting, processing_of, entries_of, granted, leaving, reading_row, ending_row, served, Check, check, first_failed, timely, open_at, needs_no_grant, well_read, is_outcome, well_ended, checks_of, due, room_refused, or_else, refusal, answer_of, resolved, outcome}
 use Rattle.model.specs.Transitions.{Other, Complete, Way, row_2, row_3, row_4, row_5, row_6, Takes}
 use Rattle.model.specs.Exact.{PassesBelow, Fits, FitsTo, FitsWith, RowFits, NoOutcome, Stuck, TenIsExact, OneRowAtMost}
 use Rattle.model.proofs.Basics.{some_none, some_same}
@@ -265,7 +265,7 @@ module _ (at : Sites) (c : Contents) (id : Text) (x : ℕ) where
   fits-serve : (s : Service) → RowFits at c id (at_time x) s → can_all at (at_time x) c (served s id (c.wafer id)) ≡ true
   fits-serve start f = one_row (change row11) (fits-can 11 (change row11) (λ v. refl) f)
   fits-serve skip f = one_row (change (row14 7)) (to-can 14 7 row14 (λ w. refl) f)
-  fits-serve read-failed f = one_row (change (row18 [])) (failed_can f)
+  fits-serve read_failed f = one_row (change (row18 [])) (failed_can f)
   fits-serve proceed f = one_row (change row20) (fits-can 20 (change row20) (λ v. refl) f)
   fits-serve cancel f = cancel_can (fits-can 21 (change row21) (λ v. refl) f)
   fits-serve unload f = one_row (leave row7) (fits-can 7 (leave row7) (λ v. refl) f)
@@ -277,7 +277,7 @@ module _ (at : Sites) (c : Contents) (id : Text) (x : ℕ) where
   serve-fits : (s : Service) → can_all at (at_time x) c (served s id (c.wafer id)) ≡ true → RowFits at c id (at_time x) s
   serve-fits start h = can-fits (change row11) (row_one (change row11) h)
   serve-fits skip h = let u = can_changes (row14 7) (row_one (change (row14 7)) h) in (changed (row14 7) u.0, u.1, refl)
-  serve-fits read-failed h = can-fits (change (row18 [])) (row_one (change (row18 [])) h)
+  serve-fits read_failed h = can-fits (change (row18 [])) (row_one (change (row18 [])) h)
   serve-fits proceed h = can-fits (change row20) (row_one (change row20) h)
   serve-fits cancel h = can-fits (change row21) (and_parts _ _ h).0
   serve-fits unload h = can-fits (leave row7) (row_one (leave row7) h)
@@ -291,7 +291,7 @@ module _ (at : Sites) (c : Contents) (id : Text) (x : ℕ) where
 not_ended : (s : Service) → well_ended s ≡ false → NoOutcome s
 not_ended start h = false≢true (sym h)
 not_ended skip h = false≢true (sym h)
-not_ended read-failed h = false≢true (sym h)
+not_ended read_failed h = false≢true (sym h)
 not_ended proceed h = false≢true (sym h)
 not_ended cancel h = false≢true (sym h)
 not_ended unload h = false≢true (sym h)
@@ -303,7 +303,7 @@ not_ended (read a) h = false≢true (sym h)
 ended_not : (s : Service) → NoOutcome s → well_ended s ≡ false
 ended_not start h = absurd h
 ended_not skip h = absurd h
-ended_not read-failed h = absurd h
+ended_not read_failed h = absurd h
 ended_not proceed h = absurd h
 ended_not cancel h = absurd h
 ended_not unload h = absurd h

@@ -8,8 +8,8 @@ use Rattle.model.specs.Wafers.{Text, at_time, Wafer}
 use Rattle.model.specs.Places.{Sites, listed, Contents}
 use Rattle.model.specs.Rows.{Leg, row2, row3, row4, row5, row6, leg_number, Change, row8, row10, row11, row12, row13, row14, row17, row18, row19, row20, row21, change_number, Exit, row7, row9, exit_number, Row, enter, move, leave, change, row_number, can, after, used_after, effect, standing, told}
 use Rattle.model.specs.Mirroring.{Mirror, when, row_of, matches, has_row, taken, fault, is_step, taken_row, take_row, occupant_told, taken_place, intake, held_after}
-use Rattle.model.specs.Transitions.{Other, Listed, Takes, Row-taken, Shows}
-use Rattle.model.specs.MirrorExact.{Carries, Steps-to, AStep, HasRoom, counted, Took-row, Substrate-exact, Took-place, Location-exact, IntakeIsExact}
+use Rattle.model.specs.Transitions.{Other, Listed, Takes, RowTaken, Shows}
+use Rattle.model.specs.MirrorExact.{Carries, StepsTo, AStep, HasRoom, counted, TookRow, SubstrateExact, TookPlace, LocationExact, IntakeIsExact}
 use Rattle.model.proofs.Basics.{same_true, same_refl, some_none, some_same, occupied_some}
 use Rattle.model.proofs.Single.{sound-row}
 use Rattle.model.proofs.Worded.{can-takes}
@@ -167,7 +167,7 @@ fault_same j k e = cc
 module _ (at : Sites) (n : ℕ) (m : Mirror) (f : Fields) where
   -- a row that the report names and the mirror can take is a step in words, and the other way round
 
-  step_words : (r : Row) → row_of f.row f ≡ Some r → is_step at m f r ≡ true → Steps-to at m f (after (at_time f.time) (m.contents.wafer f.id) r)
+  step_words : (r : Row) → row_of f.row f ≡ Some r → is_step at m f r ≡ true → StepsTo at m f (after (at_time f.time) (m.contents.wafer f.id) r)
   step_words r e h =
       let u = and_parts _ _ h in
       let v = and_parts _ _ u.1 in
@@ -178,7 +178,7 @@ module _ (at : Sites) (n : ℕ) (m : Mirror) (f : Fields) where
         shown = (told (at_time f.time) o r, shows_told at m.contents.occupant f.id (at_time f.time) o r u.0, carries_from (told (at_time f.time) o r) f v.1);
       }
 
-  words_step : (next : Option Wafer) → Steps-to at m f next → (r : Row) × (row_of f.row f ≡ Some r) × (is_step at m f r ≡ true)
+  words_step : (next : Option Wafer) → StepsTo at m f next → (r : Row) × (row_of f.row f ≡ Some r) × (is_step at m f r ≡ true)
   words_step next s =
       let o : Option Wafer = m.contents.wafer f.id in
       let u = row_named at m.contents.occupant f.id f.time f.row o next s.row in
@@ -191,17 +191,17 @@ module _ (at : Sites) (n : ℕ) (m : Mirror) (f : Fields) where
         and_from _ _ u.1 (and_from _ _ (le-leb m.last f.time s.in_time) (ap (λ (v : Wafer). matches v f) told-so ∙ from_carries (standing next o) f c)),
       )
 
-  took_row : (r : Row) → row_of f.row f ≡ Some r → is_step at m f r ≡ true → Took-row at m f (taken_row m f r)
+  took_row : (r : Row) → row_of f.row f ≡ Some r → is_step at m f r ≡ true → TookRow at m f (taken_row m f r)
   took_row r e h =
       let c : Contents = m.contents in
       let x = at_time f.time in
       let k : row_number r ≡ f.row = numbered f.row f r e in
       let can-do : can at c f.id r ≡ true = (and_parts _ _ h).0 in
       record {
-        step = subst (Steps-to at m f) (sym (own_wafer x f.id r c)) (step_words r e h);
+        step = subst (StepsTo at m f) (sym (own_wafer x f.id r c)) (step_words r e h);
         others = λ i a. other_wafer x f.id i r c a;
         used = counted-after r c.used ∙ ap (λ (j : ℕ). counted j c.used) k;
-        whole = λ s. subst (λ (j : ℕ). Row-taken at x f.id j c (effect x f.id r c)) k (row-taken at c f.id x r s can-do);
+        whole = λ s. subst (λ (j : ℕ). RowTaken at x f.id j c (effect x f.id r c)) k (row-taken at c f.id x r s can-do);
         sound = λ s. sound-row at c f.id x r s can-do;
         seen = refl;
         last = refl;
@@ -210,7 +210,7 @@ module _ (at : Sites) (n : ℕ) (m : Mirror) (f : Fields) where
   intake-row : (o : Option Row) → f.family ≡ 0 → row_of f.row f ≡ o → intake at n m f ≡ take_row at n m f o
   intake-row o z e = cond-true (eqb f.family 0) _ _ (eq-eqb f.family 0 z) ∙ ap (take_row at n m f) e
 
-  no_step : intake at n m f ≡ fault 17 → (AStep at m f → ⊥) → Substrate-exact at n m f
+  no_step : intake at n m f ≡ fault 17 → (AStep at m f → ⊥) → SubstrateExact at n m f
   no_step e never = record {
     is_taken = λ s h. absurd (never s);
     was_taken = λ m' g. taken-fault _ m' 17 (sym g ∙ e);
@@ -224,7 +224,7 @@ module _ (at : Sites) (n : ℕ) (m : Mirror) (f : Fields) where
       unlike : ◌≡◌ {A = ℕ} 17 18 → ⊥
       unlike z = omega arith
 
-  a_step : (r : Row) → row_of f.row f ≡ Some r → is_step at m f r ≡ true → intake at n m f ≡ cond (has_row n r m.contents.used) (taken (taken_row m f r)) (fault 18) → Substrate-exact at n m f
+  a_step : (r : Row) → row_of f.row f ≡ Some r → is_step at m f r ≡ true → intake at n m f ≡ cond (has_row n r m.contents.used) (taken (taken_row m f r)) (fault 18) → SubstrateExact at n m f
   a_step r e h i = go (has_row n r m.contents.used) refl i
     where
       step : AStep at m f
@@ -236,10 +236,10 @@ module _ (at : Sites) (n : ℕ) (m : Mirror) (f : Fields) where
       unlike : ◌≡◌ {A = ℕ} 18 17 → ⊥
       unlike z = omega arith
 
-      go : (b : Bool) → has_row n r m.contents.used ≡ b → intake at n m f ≡ cond b (taken (taken_row m f r)) (fault 18) → Substrate-exact at n m f
+      go : (b : Bool) → has_row n r m.contents.used ≡ b → intake at n m f ≡ cond b (taken (taken_row m f r)) (fault 18) → SubstrateExact at n m f
       go true x i = record {
         is_taken = λ s y. (taken_row m f r, i);
-        was_taken = λ m' g. subst (λ (k : Mirror). HasRoom n m f × Took-row at m f k) (taken_same (taken_row m f r) m' (sym i ∙ g)) (room, took_row r e h);
+        was_taken = λ m' g. subst (λ (k : Mirror). HasRoom n m f × TookRow at m f k) (taken_same (taken_row m f r) m' (sym i ∙ g)) (room, took_row r e h);
         is_17 = λ never. absurd (never step);
         was_17 = λ g. taken-fault _ (taken_row m f r) 17 (sym i ∙ g);
         is_18 = λ s y l. absurd (full y l);
@@ -268,19 +268,19 @@ module _ (at : Sites) (n : ℕ) (m : Mirror) (f : Fields) where
           full : HasRoom n m f → ⊥
           full y = let k : m.contents.used < n = y (sym first ∙ none.0) in let l : n ≤ m.contents.used = none.1 in omega arith
 
-  substrate_exact : f.family ≡ 0 → Substrate-exact at n m f
+  substrate_exact : f.family ≡ 0 → SubstrateExact at n m f
   substrate_exact z = go (row_of f.row f) refl
     where
-      go : (o : Option Row) → row_of f.row f ≡ o → Substrate-exact at n m f
+      go : (o : Option Row) → row_of f.row f ≡ o → SubstrateExact at n m f
       go None e = no_step (intake-row None z e) (λ s. let u = words_step s.0 s.1 in some_none ⊥ u.0 (sym u.1 ∙ e))
       go (Some r) e = by (is_step at m f r) refl
         where
-          by : (b : Bool) → is_step at m f r ≡ b → Substrate-exact at n m f
+          by : (b : Bool) → is_step at m f r ≡ b → SubstrateExact at n m f
           by true h = a_step r e h (intake-row (Some r) z e ∙ cond-true (is_step at m f r) _ _ h)
           by false h = no_step (intake-row (Some r) z e ∙ cond-false (is_step at m f r) _ _ h)
               (λ s. let u = words_step s.0 s.1 in both_ways _ h (ap (is_step at m f) (some_same r u.0 (sym e ∙ u.1)) ∙ u.2))
 
-  took_place : Took-place m f (taken_place m f)
+  took_place : TookPlace m f (taken_place m f)
   took_place = record {
     occupied = λ e. here ∙ cond-true (eqb f.row 1) _ _ (eq-eqb f.row 1 e);
     unoccupied = λ a. here ∙ cond-false (eqb f.row 1) _ _ (ne_eqb f.row 1 a);
@@ -292,13 +292,13 @@ module _ (at : Sites) (n : ℕ) (m : Mirror) (f : Fields) where
       here : (taken_place m f).seen f.place ≡ occupant_told f
       here = cond-true (eqb f.place f.place) _ _ (eq-eqb f.place f.place refl)
 
-  location_exact : Other f.family 0 → Location-exact at n m f
+  location_exact : Other f.family 0 → LocationExact at n m f
   location_exact z = go (listed at f.place) refl (cond-false (eqb f.family 0) _ _ (ne_eqb f.family 0 z))
     where
-      go : (b : Bool) → listed at f.place ≡ b → intake at n m f ≡ cond b (taken (taken_place m f)) (fault 17) → Location-exact at n m f
+      go : (b : Bool) → listed at f.place ≡ b → intake at n m f ≡ cond b (taken (taken_place m f)) (fault 17) → LocationExact at n m f
       go true x i = record {
         is_taken = λ l. (taken_place m f, i);
-        was_taken = λ m' g. subst (λ (k : Mirror). Listed at f.place × Took-place m f k) (taken_same (taken_place m f) m' (sym i ∙ g)) (occupied_some (at f.place) x, took_place);
+        was_taken = λ m' g. subst (λ (k : Mirror). Listed at f.place × TookPlace m f k) (taken_same (taken_place m f) m' (sym i ∙ g)) (occupied_some (at f.place) x, took_place);
         is_17 = λ never. absurd (never (occupied_some (at f.place) x));
         was_refused = λ k g. taken-fault _ (taken_place m f) k (sym i ∙ g);
       }

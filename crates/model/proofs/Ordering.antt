@@ -7,7 +7,7 @@ use Rattle.model.specs.Switches.{Switches, quiet}
 use Rattle.model.specs.Reporting.{occupancy_row, location_report}
 use Rattle.model.specs.Rows.{Leg, leg_number, to_transport, fits, reads_as, Change, row12, row13, row14, row17, row19, row21, change_number, row9, change, row_number, place_of}
 use Rattle.model.specs.Steps.{Step, takes, tells, step_effect, reports_of}
-use Rattle.model.specs.Calls.{Grant, Tracker, Service, start, skip, read-failed, proceed, cancel, unload, correct, missing, end, read, Call, register, lift, set_down, put_back, serve, fitting, moving, leaving, served, steps_of, times_of, resolved}
+use Rattle.model.specs.Calls.{Grant, Tracker, Service, start, skip, read_failed, proceed, cancel, unload, correct, missing, end, read, Call, register, lift, set_down, put_back, serve, fitting, moving, leaving, served, steps_of, times_of, resolved}
 use Rattle.model.specs.Transitions.{Other, Goes}
 use Rattle.model.specs.Kinds.{Kind, row, location, kinds}
 use Rattle.model.specs.Orders.{Writes, told, Is, ReportsInOrder}
@@ -93,7 +93,7 @@ reports_in_order ps h t = record {
   skips = λ id x. writes ps h t (serve skip id x) _ refl;
   reads_own = read-writes ps h t;
   reads_other = other_writes ps h t;
-  fails_to_read = λ id x. writes ps h t (serve read-failed id x) _ refl;
+  fails_to_read = λ id x. writes ps h t (serve read_failed id x) _ refl;
   proceeds = λ id x. writes ps h t (serve proceed id x) _ refl;
   cancels_unprocessed = λ id x w i e. cancel_writes ps h t id x w true i (eq-eqb w.processing 0 e);
   cancels = λ id x w i n. cancel_writes ps h t id x w false i (ne_eqb w.processing 0 n);

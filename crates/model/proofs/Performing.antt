@@ -1,18 +1,18 @@
 -- The steps of a call: they are rows of the table, the mirror takes their reports, and the record stays sound.
-use Rattle.std.proofs.Common.{◌≡◌, ℕ, ◌≤◌, Bool, true, false, cond, not, ◌&&◌, ◌||◌, eqb, ltb, leb, ◌⊎◌, List, [], ◌∷◌, ◌++◌, Some, None, Option, sym, refl, ap, ◌∙◌, subst, inl, inr, ⊎_elim, le_refl, arith}
+use Rattle.std.proofs.Common.{◌≡◌, ℕ, ◌≤◌, Bool, true, false, cond, ◌&&◌, eqb, List, [], ◌∷◌, ◌++◌, Some, None, Option, sym, refl, ap, ◌∙◌, subst, le_refl, arith}
 use Rattle.std.specs.Str.{bytes_eq}
-use Rattle.std.proofs.lemmas.Bool.{false≢true, and_parts, and_from, cond-true, cond-false}
+use Rattle.std.proofs.lemmas.Bool.{false≢true, and_parts, cond-true, cond-false}
 use Rattle.std.proofs.lemmas.Bool.Decides.{nat_tests as testing}
 use Rattle.reports.specs.Fields.{Fields}
 use Rattle.model.specs.Wafers.{Text, Times, at_time, Wafer}
 use Rattle.model.specs.Places.{Sites, listed, Contents, put_code}
-use Rattle.model.specs.Reporting.{substrate_report, location_report}
-use Rattle.model.specs.Rows.{Leg, Change, Exit, Row, enter, move, leave, change, row_number, can, can_from, after, used_after, effect, told}
-use Rattle.model.specs.Steps.{Step, takes, tells, step_effect, step_reports, can_step, can_all, perform, reports_of}
+use Rattle.model.specs.Reporting.{location_report}
+use Rattle.model.specs.Rows.{Row, enter, move, leave, change, row_number, can, can_from, after, used_after, effect, told}
+use Rattle.model.specs.Steps.{Step, takes, tells, step_effect, can_step, can_all, perform, reports_of}
 use Rattle.model.specs.Mirroring.{Mirror, Intake, taken, fault, has_row, intake, intake_all, hears, held_after}
-use Rattle.model.specs.Transitions.{Other, home, Takes, Row-taken, Shows, Traced, nothing, location, substrate}
+use Rattle.model.specs.Transitions.{Other, home, Takes, RowTaken, Shows, Traced, nothing, location, substrate}
 use Rattle.model.specs.Runs.{NameEachOther, Sound}
-use Rattle.model.proofs.Basics.{same_refl, same_false, same_tells, some_none, some_same}
+use Rattle.model.proofs.Basics.{same_refl, same_false, some_none, some_same}
 use Rattle.model.proofs.Single.{mirror-row, sound-row}
 use Rattle.model.proofs.Worded.{can-takes}
 
@@ -53,7 +53,7 @@ module _ (id : Text) (occ occ' : ℕ → Option Text) (place place' : Text → O
           sym before ∙ k
 
 -- a row that can be taken is a row taken, of the whole record
-pub row-taken : (at : Sites) (c : Contents) (id : Text) (t : Times) (r : Row) → Sound at c → can at c id r ≡ true → Row-taken at t id (row_number r) c (effect t id r c)
+pub row-taken : (at : Sites) (c : Contents) (id : Text) (t : Times) (r : Row) → Sound at c → can at c id r ≡ true → RowTaken at t id (row_number r) c (effect t id r c)
 row-taken at c id t r s h =
     let d : Contents = effect t id r c in
     let s' : Sound at d = sound-row at c id t r s h in

@@ -1,15 +1,15 @@
 -- A promised place stays one to which its wafer can go.
-use Rattle.std.proofs.Common.{◌≡◌, ℕ, ◌<◌, ◌≤◌, Bool, true, false, cond, not, ◌&&◌, ◌||◌, eqb, ltb, leb, List, [], ◌∷◌, ◌++◌, length, Some, None, Option, sym, refl, ap, ◌∙◌, subst, arith}
+use Rattle.std.proofs.Common.{◌≡◌, ℕ, Bool, true, false, not, ◌&&◌, ◌||◌, eqb, ltb, List, [], ◌∷◌, Some, None, Option, sym, refl, ap, ◌∙◌, arith}
 use Rattle.std.specs.Str.{bytes_eq}
-use Rattle.std.proofs.lemmas.Bool.{false≢true, both_ways, not-true, and_parts, and_from, or_left, or_right, eqb-true, eq-eqb, cond-true, cond-false}
+use Rattle.std.proofs.lemmas.Bool.{false≢true, and_parts, and_from, or_left, or_right, eqb-true, cond-false}
 use Rattle.std.proofs.lemmas.Bool.Decides.{nat_tests as testing}
-use Rattle.table.specs.Lookup.{bears, vacant, occupied}
+use Rattle.table.specs.Lookup.{occupied}
 use Rattle.model.specs.Wafers.{Text, Times, Wafer, with_processing}
-use Rattle.model.specs.Places.{Spot, Plan, Sites, sites, listed, station, Contents, put_text, put_code}
-use Rattle.model.specs.Rows.{Leg, row2, row3, row4, row5, row6, from_transport, leads, fits, complete, steady, Change, row8, row10, row11, row12, row13, row14, row17, row18, row19, row20, row21, may_change, changed, Exit, Row, enter, move, leave, change, can, can_from, after, place_of, occupant_after, effect}
-use Rattle.model.specs.Steps.{Step, takes, tells, step_effect, can_step, can_all, perform}
-use Rattle.model.specs.Calls.{Promise, first_leg, fitting, entries_of, promised_to, pledged, granted, moving}
-use Rattle.model.proofs.Basics.{same_tells, same_true, same_refl, same_false, vacant-none, none-vacant, occupied_some}
+use Rattle.model.specs.Places.{Plan, Sites, sites, listed, Contents}
+use Rattle.model.specs.Rows.{Leg, row2, row3, row4, row5, row6, from_transport, leads, fits, complete, steady, Change, row8, row10, row11, row12, row13, row14, row17, row18, row19, row20, row21, may_change, changed, Row, enter, move, leave, change, can, can_from, after, place_of, occupant_after, effect}
+use Rattle.model.specs.Steps.{Step, takes, tells, can_all, perform}
+use Rattle.model.specs.Calls.{Promise, first_leg, fitting, entries_of, promised_to, granted, moving}
+use Rattle.model.proofs.Basics.{same_true, same_refl, none-vacant, occupied_some}
 use Rattle.model.proofs.Performing.{own_wafer}
 
 abbrev pub to : Text → Option Promise

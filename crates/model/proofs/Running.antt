@@ -1,21 +1,18 @@
 -- Every run keeps the law.
-use Rattle.std.proofs.Common.{◌≡◌, ℕ, zero, suc, ◌+◌, ◌≤◌, Bool, true, false, cond, not, ◌&&◌, ◌||◌, eqb, ltb, List, [], ◌∷◌, ◌++◌, length, Some, None, Option, sym, refl, ap, ◌∙◌, subst, arith}
-use Rattle.std.specs.Option.{option_map}
-use Rattle.std.proofs.lemmas.Bool.{false≢true, both_ways, and_parts, or_parts, or_from, eqb-true, eq-eqb, cond-true, cond-false}
-use Rattle.std.proofs.lemmas.Bool.Decides.{nat_tests as testing}
-use Rattle.reports.specs.Fields.{Fields}
-use Rattle.table.specs.Lookup.{bears, position, later, row_at, in_use}
-use Rattle.model.specs.Wafers.{Text, Wafer}
-use Rattle.model.specs.Places.{Spot, Plan, Sites, sites, listed, index, code_at, Contents, nothing_held}
+use Rattle.std.proofs.Common.{◌≡◌, ℕ, zero, suc, ◌≤◌, Bool, true, false, cond, ◌&&◌, eqb, ltb, List, [], ◌∷◌, ◌++◌, Some, None, Option, sym, refl, ap, ◌∙◌, subst, arith}
+use Rattle.std.proofs.lemmas.Bool.{both_ways, and_parts, or_parts, or_from, eqb-true, eq-eqb}
+use Rattle.table.specs.Lookup.{later, in_use}
+use Rattle.model.specs.Wafers.{Wafer}
+use Rattle.model.specs.Places.{Plan, Sites, sites, index, code_at, Contents}
 use Rattle.model.specs.Switches.{Switches, silent_at, quiet, all_off, with_reader, silenced_at}
 use Rattle.model.specs.Mirroring.{Mirror, blank_mirror, Intake, taken, intake_all, hears}
-use Rattle.model.specs.Steps.{Step, perform, reports_of}
-use Rattle.model.specs.Calls.{Promise, Tracker, made_tracker, Call, Answer, steps_of, time_of, times_of, refusal, due, carried_out, Outcome, resolved, outcome}
-use Rattle.model.specs.Transitions.{home, Traced, nothing}
-use Rattle.model.specs.Runs.{Event, call, reader, silence, begin, finish, Setup, Matched, World, tracker_after, reports_after, answers_after, restored, switches_after, visit_after, Took, Path, Begun, Reached, names, silences, ever_silenced, Alike, BothHold, Each, Housed, Sound, Law, ByRows, Along, RunsKeepTheLaw}
+use Rattle.model.specs.Steps.{Step, perform}
+use Rattle.model.specs.Calls.{Tracker, made_tracker, Call, Answer, steps_of, time_of, times_of, refusal, due, resolved}
+use Rattle.model.specs.Transitions.{Traced, nothing}
+use Rattle.model.specs.Runs.{Event, call, reader, silence, begin, finish, Setup, Matched, World, answers_after, restored, Took, Path, Begun, Reached, names, silences, ever_silenced, BothHold, Each, Sound, Law, ByRows, Along}
 use Rattle.model.proofs.Basics.{some_none, some_same}
-use Rattle.model.proofs.Performing.{heard_places, heard_told, told_places, Mirrored, mirrored, intake_append, hears-taken, sound_all, traced}
-use Rattle.model.proofs.Promises.{to, Ready, Kept}
+use Rattle.model.proofs.Performing.{heard_places, heard_told, Mirrored, mirrored, intake_append, hears-taken, sound_all, traced}
+use Rattle.model.proofs.Promises.{Kept}
 use Rattle.model.proofs.Accepting.{Accepted, accepted}
 
 -- lists

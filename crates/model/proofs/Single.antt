@@ -1,15 +1,14 @@
 -- One row: the mirror takes what is reported of it, and the record stays sound.
-use Rattle.std.proofs.Common.{◌≡◌, ℕ, ◌≤◌, Bool, true, false, cond, not, ◌&&◌, ◌||◌, eqb, ltb, leb, List, [], ◌∷◌, ◌++◌, length, Some, None, Option, sym, refl, ap, ◌∙◌, arith}
+use Rattle.std.proofs.Common.{◌≡◌, ℕ, ◌≤◌, Bool, true, false, cond, ltb, List, [], ◌∷◌, ◌++◌, length, Some, None, Option, refl, ap, ◌∙◌, arith}
 use Rattle.std.specs.Str.{bytes_eq}
 use Rattle.std.proofs.lemmas.Bool.{false≢true, and_parts, and_from, eq-eqb, le-leb, cond-true}
 use Rattle.std.proofs.lemmas.Bool.Decides.{nat_tests}
 use Rattle.reports.specs.Fields.{Fields}
-use Rattle.table.specs.Lookup.{vacant}
-use Rattle.model.specs.Wafers.{Text, Times, at_time, Stay, Wafer, opened, closed, registered, moved_on, moved_to}
-use Rattle.model.specs.Places.{Sites, listed, Contents, put_text, put_code}
+use Rattle.model.specs.Wafers.{Text, Times, at_time, Stay, Wafer, opened, closed, moved_on}
+use Rattle.model.specs.Places.{Sites, Contents, put_text, put_code}
 use Rattle.model.specs.Reporting.{substrate_report}
-use Rattle.model.specs.Rows.{Leg, row2, row3, row4, row5, row6, to_transport, Change, row8, row10, row11, row12, row13, row14, row17, row18, row19, row20, row21, changed, Exit, row7, row9, Row, enter, move, leave, change, row_number, can, can_from, after, used_after, place_of, occupant_after, effect, told}
-use Rattle.model.specs.Mirroring.{Mirror, Intake, taken, row_of, matches, has_row, is_step, taken_row, take_row, intake}
+use Rattle.model.specs.Rows.{row2, row3, row4, row5, row6, Change, row8, row10, row11, row12, row13, row14, row17, row18, row19, row20, row21, changed, row7, row9, Row, enter, move, leave, change, row_number, can, can_from, after, used_after, place_of, occupant_after, effect, told}
+use Rattle.model.specs.Mirroring.{Mirror, taken, row_of, matches, has_row, is_step, take_row, intake}
 use Rattle.model.specs.Transitions.{home}
 use Rattle.model.specs.Runs.{OpenOnlyAt, Housed, Each, NameEachOther, Sound}
 use Rattle.model.proofs.Basics.{same_refl, same_tells, vacant-none, occupied_some}

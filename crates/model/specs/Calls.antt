@@ -1,5 +1,5 @@
 -- The tracker's calls: what each is checked for, its steps, and what comes of it.
-use Rattle.std.specs.Prelude.{◌≡◌, ℕ, Bool, true, false, cond, not, ◌&&◌, ◌||◌, List, [], ◌∷◌, ◌++◌, length, Some, None, Option, ◌==◌, nat_le, nat_lt}
+use Rattle.std.specs.Prelude.{ℕ, Bool, true, false, cond, not, ◌&&◌, ◌||◌, List, [], ◌∷◌, ◌++◌, length, Some, None, Option, ◌==◌, nat_le, nat_lt}
 use Rattle.std.specs.Str.{bytes_eq}
 use Rattle.reports.specs.Fields.{Fields}
 use Rattle.texts.specs.Form.{named}
@@ -8,7 +8,7 @@ use Rattle.table.specs.Lookup.{occupied, vacant}
 use Rattle.model.specs.Wafers.{Text, Times, at_time, Wafer}
 use Rattle.model.specs.Places.{Spot, Plan, Sites, sites, listed, Contents, put_code, nothing_held}
 use Rattle.model.specs.Switches.{Switches, quiet}
-use Rattle.model.specs.Rows.{Leg, row2, row3, row4, row5, row6, fits, Change, row8, row10, row11, row12, row13, row14, row17, row18, row19, row20, row21, reads_as, Exit, row7, row9, Row, enter, move, leave, change, place_of}
+use Rattle.model.specs.Rows.{Leg, row2, row3, row4, row5, row6, fits, Change, row8, row10, row11, row12, row13, row14, row17, row18, row19, row20, row21, reads_as, Exit, row7, row9, enter, move, leave, change, place_of}
 use Rattle.model.specs.Steps.{Step, takes, tells, can_all, perform, reports_of}
 
 -- what a place that is promised holds: the wafer to come
@@ -31,7 +31,7 @@ made_tracker = record { contents = nothing_held; promise = λ _. None; latest = 
 
 -- the calls on a registered wafer
 pub data Service : Type 0 where
-  start skip read-failed proceed cancel unload correct missing : Service
+  start skip read_failed proceed cancel unload correct missing : Service
   end : (outcome : ℕ) → Service
   read : (acquired : Text) → Service
 
@@ -112,7 +112,7 @@ ending_row o = cond (o == 0) row13 (row12 o)
 abbrev pub serving : Service → Text → ℕ → ℕ → List Step
 serving start id pr from = takes id (change row11) ∷ []
 serving skip id pr from = takes id (change (row14 7)) ∷ []
-serving read-failed id pr from = takes id (change (row18 [])) ∷ []
+serving read_failed id pr from = takes id (change (row18 [])) ∷ []
 serving proceed id pr from = takes id (change row20) ∷ []
 serving cancel id pr from = takes id (change row21) ∷ cond (pr == 0) (takes id (change (row14 7)) ∷ []) []
 serving unload id pr from = leaving id from row7
@@ -181,7 +181,7 @@ open_at t p = vacant (t.contents.occupant p) && vacant (t.promise p)
 abbrev pub needs_no_grant : Service → Bool
 needs_no_grant start = true
 needs_no_grant skip = false
-needs_no_grant read-failed = false
+needs_no_grant read_failed = false
 needs_no_grant proceed = false
 needs_no_grant cancel = false
 needs_no_grant unload = true
@@ -194,7 +194,7 @@ needs_no_grant (read a) = false
 abbrev pub well_read : Service → Bool
 well_read start = true
 well_read skip = true
-well_read read-failed = true
+well_read read_failed = true
 well_read proceed = true
 well_read cancel = true
 well_read unload = true
@@ -210,7 +210,7 @@ is_outcome o = o == 0 || (nat_le 2 o && nat_le o 5)
 abbrev pub well_ended : Service → Bool
 well_ended start = true
 well_ended skip = true
-well_ended read-failed = true
+well_ended read_failed = true
 well_ended proceed = true
 well_ended cancel = true
 well_ended unload = true

@@ -6,7 +6,7 @@ use Rattle.model.specs.Places.{Spot, Plan, sites}
 use Rattle.model.specs.Switches.{Switches, all_off, with_reader, silenced_at}
 use Rattle.model.specs.Reporting.{substrate_report}
 use Rattle.model.specs.Mirroring.{Mirror, blank_mirror, Intake, fault, intake, hears}
-use Rattle.model.specs.Calls.{Tracker, made_tracker, start, skip, read-failed, proceed, cancel, unload, correct, missing, end, read, Call, register, lift, set_down, serve, Answer, done, given, refused, entries_of, outcome}
+use Rattle.model.specs.Calls.{Tracker, made_tracker, start, skip, read_failed, proceed, cancel, unload, correct, missing, end, read, Call, register, lift, set_down, serve, Answer, done, given, refused, entries_of, outcome}
 use Rattle.model.specs.Kinds.{Kind, row, location, kinds}
 
 abbrev pub slot : ℕ → Option Spot
@@ -122,7 +122,7 @@ abbrev pub unread : Tracker
 unread = after reader_on 100 made_tracker (registering 101 201)
 
 abbrev pub waiting : Tracker
-waiting = then unread (serve read-failed A1 6 ∷ [])
+waiting = then unread (serve read_failed A1 6 ∷ [])
 
 abbrev pub confirmed : Tracker
 confirmed = then unread (serve (read A1) A1 6 ∷ [])
@@ -205,8 +205,8 @@ pub record RowsTakenOrNot : Type 0 where
   pub row_14_processed : Refuses processed (serve skip A1 9) 10
   pub row_17 : Brings unread (serve (read A1) A1 9) (row 17 ∷ [])
   pub row_17_no_reader : Refuses at_source (serve (read A1) A1 9) 10
-  pub row_18 : Brings unread (serve read-failed A1 9) (row 18 ∷ [])
-  pub row_18_confirmed : Refuses confirmed (serve read-failed A1 9) 10
+  pub row_18 : Brings unread (serve read_failed A1 9) (row 18 ∷ [])
+  pub row_18_confirmed : Refuses confirmed (serve read_failed A1 9) 10
   pub row_19 : Brings unread (serve (read B2) A1 9) (row 19 ∷ [])
   pub row_19_empty : Refuses unread (serve (read []) A1 9) 4
   pub row_20 : Brings waiting (serve proceed A1 9) (row 20 ∷ [])

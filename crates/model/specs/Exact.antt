@@ -3,7 +3,7 @@ use Rattle.std.specs.Prelude.{◌≡◌, ℕ, ◌<◌, ◌≤◌, true, ◌⊎�
 use Rattle.model.specs.Wafers.{Text, Times, at_time, Wafer}
 use Rattle.model.specs.Places.{Plan, Sites, sites, Contents}
 use Rattle.model.specs.Switches.{Switches}
-use Rattle.model.specs.Calls.{Tracker, Service, start, skip, read-failed, proceed, cancel, unload, correct, missing, end, read, Call, register, lift, set_down, put_back, serve, refused, Check, checks_of, outcome}
+use Rattle.model.specs.Calls.{Tracker, Service, start, skip, read_failed, proceed, cancel, unload, correct, missing, end, read, Call, register, lift, set_down, put_back, serve, refused, Check, checks_of, outcome}
 use Rattle.model.specs.Transitions.{Other, Goes, Takes}
 
 -- the checks with a lower number pass
@@ -26,7 +26,7 @@ FitsWith at c id t n a = (w : Wafer) × Takes at c.occupant t id n (c.wafer id) 
 abbrev pub RowFits : Sites → Contents → Text → Times → Service → Type 0
 RowFits at c id t start = Fits at c id t 11
 RowFits at c id t skip = FitsTo at c id t 14 7
-RowFits at c id t read-failed = Fits at c id t 18
+RowFits at c id t read_failed = Fits at c id t 18
 RowFits at c id t proceed = Fits at c id t 20
 RowFits at c id t cancel = Fits at c id t 21
 RowFits at c id t unload = Fits at c id t 7
@@ -41,7 +41,7 @@ RowFits at c id t (read a) = FitsWith at c id t 17 a ⊎ FitsWith at c id t 19 a
 abbrev pub NoOutcome : Service → Type 0
 NoOutcome start = ⊥
 NoOutcome skip = ⊥
-NoOutcome read-failed = ⊥
+NoOutcome read_failed = ⊥
 NoOutcome proceed = ⊥
 NoOutcome cancel = ⊥
 NoOutcome unload = ⊥

@@ -1,10 +1,10 @@
 -- The mirror: which reports it takes, and what it then holds.
-use Rattle.std.specs.Prelude.{ℕ, Bool, true, false, cond, ◌&&◌, List, [], ◌∷◌, Some, None, Option, ◌==◌, nat_le, nat_lt}
+use Rattle.std.specs.Prelude.{ℕ, Bool, true, cond, ◌&&◌, List, [], ◌∷◌, Some, None, Option, ◌==◌, nat_le, nat_lt}
 use Rattle.std.specs.Str.{bytes_eq}
 use Rattle.reports.specs.Fields.{Fields}
-use Rattle.model.specs.Wafers.{Text, Times, at_time, Wafer}
+use Rattle.model.specs.Wafers.{Text, at_time, Wafer}
 use Rattle.model.specs.Places.{Sites, listed, Contents, put_code, nothing_held}
-use Rattle.model.specs.Rows.{Leg, row2, row3, row4, row5, row6, Change, row8, row10, row11, row12, row13, row14, row17, row18, row19, row20, row21, Exit, row7, row9, Row, enter, move, leave, change, can, effect, told}
+use Rattle.model.specs.Rows.{row2, row3, row4, row5, row6, row8, row10, row11, row12, row13, row14, row17, row18, row19, row20, row21, row7, row9, Row, enter, move, leave, change, can, effect, told}
 
 pub record Mirror : Type 0 where
   pub contents : Contents

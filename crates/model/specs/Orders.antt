@@ -3,7 +3,7 @@ use Rattle.std.specs.Prelude.{◌≡◌, ℕ, cond, List, [], ◌∷◌, Some, N
 use Rattle.model.specs.Wafers.{Text, Wafer}
 use Rattle.model.specs.Places.{Plan, sites}
 use Rattle.model.specs.Switches.{Switches, quiet}
-use Rattle.model.specs.Calls.{Grant, Tracker, start, skip, read-failed, proceed, cancel, unload, correct, missing, end, read, Call, register, lift, set_down, put_back, serve, refusal, outcome}
+use Rattle.model.specs.Calls.{Grant, Tracker, start, skip, read_failed, proceed, cancel, unload, correct, missing, end, read, Call, register, lift, set_down, put_back, serve, refusal, outcome}
 use Rattle.model.specs.Transitions.{Other, Goes}
 use Rattle.model.specs.Kinds.{Kind, row, location, kinds}
 
@@ -31,7 +31,7 @@ pub record Orders (ps : Plan) (h : Switches) (t : Tracker) : Type 0 where
   pub skips : (id : Text) (x : ℕ) → Writes ps h t (serve skip id x) (row 14 ∷ [])
   pub reads_own : (id : Text) (x : ℕ) → Writes ps h t (serve (read id) id x) (row 17 ∷ [])
   pub reads_other : (id a : Text) (x : ℕ) → Other a id → Writes ps h t (serve (read a) id x) (row 19 ∷ [])
-  pub fails_to_read : (id : Text) (x : ℕ) → Writes ps h t (serve read-failed id x) (row 18 ∷ [])
+  pub fails_to_read : (id : Text) (x : ℕ) → Writes ps h t (serve read_failed id x) (row 18 ∷ [])
   pub proceeds : (id : Text) (x : ℕ) → Writes ps h t (serve proceed id x) (row 20 ∷ [])
   -- row 14 exactly if the wafer needs processing
   pub cancels_unprocessed : (id : Text) (x : ℕ) (w : Wafer) → Is t id w → w.processing ≡ 0 → Writes ps h t (serve cancel id x) (row 21 ∷ row 14 ∷ [])

@@ -1,5 +1,5 @@
 -- The places of a cabinet, and what tracker and mirror hold of wafers and occupants.
-use Rattle.std.specs.Prelude.{ℕ, Bool, true, false, cond, List, Some, None, Option, ◌==◌, nat_eq}
+use Rattle.std.specs.Prelude.{ℕ, Bool, false, cond, List, Some, None, Option, ◌==◌, nat_eq}
 use Rattle.std.specs.Option.{option_map}
 use Rattle.std.specs.Str.{bytes_eq}
 use Rattle.table.specs.Lookup.{bears, lookup, occupied, position, row_at}

@@ -1,5 +1,5 @@
 -- The reports of a row and of a place.
-use Rattle.std.specs.Prelude.{ℕ, List, [], Some, None, Option}
+use Rattle.std.specs.Prelude.{ℕ, [], Some, None, Option}
 use Rattle.reports.specs.Fields.{Fields}
 use Rattle.model.specs.Wafers.{Text, Times, Wafer}
 

@@ -1,5 +1,5 @@
 -- The rows of the table of transitions: when each can be taken, and what it does.
-use Rattle.std.specs.Prelude.{ℕ, suc, pred, Bool, true, false, cond, not, ◌&&◌, ◌||◌, List, [], ◌∷◌, length, Some, None, Option, ◌==◌, nat_le, nat_lt}
+use Rattle.std.specs.Prelude.{ℕ, suc, pred, Bool, false, not, ◌&&◌, ◌||◌, length, Some, None, Option, ◌==◌, nat_le, nat_lt}
 use Rattle.std.specs.Str.{bytes_eq}
 use Rattle.reports.specs.Bounds.{blank}
 use Rattle.table.specs.Lookup.{vacant}

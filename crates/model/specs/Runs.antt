@@ -2,10 +2,10 @@
 use Rattle.std.specs.Prelude.{◌≡◌, ℕ, ◌+◌, ◌≤◌, Bool, true, false, cond, ◌&&◌, ◌||◌, List, [], ◌∷◌, ◌++◌, length, Some, None, Option, ◌==◌, nat_lt}
 use Rattle.reports.specs.Fields.{Fields}
 use Rattle.table.specs.Lookup.{in_use}
-use Rattle.model.specs.Wafers.{Text, Times, Stay, Wafer}
+use Rattle.model.specs.Wafers.{Text, Stay, Wafer}
 use Rattle.model.specs.Places.{Plan, Sites, sites, code_at, Contents}
 use Rattle.model.specs.Switches.{Switches, all_off, with_reader, silenced_at}
-use Rattle.model.specs.Mirroring.{Mirror, blank_mirror, Intake, taken, intake_all, hears}
+use Rattle.model.specs.Mirroring.{Mirror, blank_mirror, taken, intake_all, hears}
 use Rattle.model.specs.Calls.{Tracker, made_tracker, Call, Answer, done, refused, times_of, outcome}
 use Rattle.model.specs.Transitions.{Listed, Traced, home}
 

@@ -1,5 +1,5 @@
 -- The steps of a call: rows that wafers take, and location reports, in the order in which they are reported.
-use Rattle.std.specs.Prelude.{ℕ, Bool, true, false, cond, ◌&&◌, List, [], ◌∷◌, ◌++◌, Option}
+use Rattle.std.specs.Prelude.{ℕ, Bool, true, cond, ◌&&◌, List, [], ◌∷◌, ◌++◌, Option}
 use Rattle.reports.specs.Fields.{Fields}
 use Rattle.model.specs.Wafers.{Text, Times}
 use Rattle.model.specs.Places.{Sites, Contents}

@@ -1,5 +1,5 @@
 -- The settings: the reader switch, and one silence switch for each place by its position.
-use Rattle.std.specs.Prelude.{ℕ, Bool, true, false, cond, ◌&&◌, Some, None, Option, ◌==◌, nat_lt}
+use Rattle.std.specs.Prelude.{ℕ, Bool, false, cond, ◌&&◌, Some, None, Option, ◌==◌, nat_lt}
 use Rattle.model.specs.Places.{Plan, index}
 
 pub record Switches : Type 0 where

@@ -1,7 +1,7 @@
 -- The table of transitions in its own words: for each row from where it starts, what it asks, and where it leads.
 use Rattle.std.specs.Prelude.{◌≡◌, ℕ, ◌<◌, ◌≤◌, ◌⊎◌, List, [], ◌∷◌, ◌++◌, length, Some, None, Option}
 use Rattle.reports.specs.Fields.{Fields}
-use Rattle.model.specs.Wafers.{Text, Times, Stay, Wafer, opened, closed, registered, with_transport, with_processing, with_reading}
+use Rattle.model.specs.Wafers.{Text, Times, Wafer, opened, closed, registered, with_transport, with_processing, with_reading}
 use Rattle.model.specs.Places.{Spot, Sites, Contents}
 use Rattle.model.specs.Reporting.{substrate_report, location_report}
 
@@ -72,7 +72,7 @@ home None = None
 home (Some w) = Some w.place
 
 -- the record before and after a row of the wafer `id`
-pub record Row-taken (at : Sites) (t : Times) (id : Text) (n : ℕ) (c d : Contents) : Type 0 where
+pub record RowTaken (at : Sites) (t : Times) (id : Text) (n : ℕ) (c d : Contents) : Type 0 where
   pub row : Takes at c.occupant t id n (c.wafer id) (d.wafer id)
   -- the other wafers stay as they were
   pub others : (i : Text) → Other i id → d.wafer i ≡ c.wafer i
@@ -91,4 +91,4 @@ Shows None None v = ⊥
 pub data Traced (at : Sites) (t : Times) : Contents → List Fields → Contents → Type 0 where
   nothing : (c : Contents) → Traced at t c [] c
   location : (c d : Contents) (p : ℕ) (o : Option Text) (fs : List Fields) → Traced at t c fs d → Traced at t c (location_report t p o ∷ fs) d
-  substrate : (c m d : Contents) (id : Text) (n : ℕ) (w : Wafer) (fs : List Fields) → Row-taken at t id n c m → Shows (c.wafer id) (m.wafer id) w → Traced at t m fs d → Traced at t c (substrate_report n t id w ∷ fs) d
+  substrate : (c m d : Contents) (id : Text) (n : ℕ) (w : Wafer) (fs : List Fields) → RowTaken at t id n c m → Shows (c.wafer id) (m.wafer id) w → Traced at t m fs d → Traced at t c (substrate_report n t id w ∷ fs) d

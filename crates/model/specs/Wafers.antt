@@ -1,5 +1,5 @@
 -- A wafer as tracker and mirror both hold it: where it is, its states and where it has been.
-use Rattle.std.specs.Prelude.{ℕ, Bool, cond, List, [], ◌∷◌, ◌++◌, length, Some, None, Option, nat_lt}
+use Rattle.std.specs.Prelude.{ℕ, cond, List, [], ◌∷◌, ◌++◌, length, Some, None, Option, nat_lt}
 
 -- the bytes of an ID or of an acquired ID
 abbrev pub Text : Type 0
