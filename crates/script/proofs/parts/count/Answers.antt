@@ -1,6 +1,0 @@
-use Rattle.std.proofs.Common.{sym}
-use Rattle.std.proofs.lemmas.List.{length-map}
-use Rattle.script.proofs.parts.count.Goals as goal
-
-pub returns : goal.returns
-returns c = sym (length-map _ _)
