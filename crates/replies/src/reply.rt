@@ -2,7 +2,7 @@ ghost use Rattle.std.specs.Prelude.{◌≡◌, ◌++◌, map, IfOk, string_bytes
 ghost use Rattle.packed_log.specs.Shown.{log_shown, log_fault_shown};
 ghost use Rattle.outcomes.specs.Outcomes.{came, reports};
 ghost use Rattle.script.specs.Requests.{request_of};
-ghost use Rattle.replies.specs.Replies.{located_text, verdict, indented, bytes_text, refusal_text, told, ErrorLine as ErrorLine, Says, Replies};
+ghost use Rattle.replies.specs.Replies.{located_text, verdict, indented, bytes_text, refusal_text, told, ErrorLine, Says, Replies};
 ghost use Rattle.std.specs.Option.{option_map};
 ghost use Rattle.reports.specs.Bounds.{out_of_bounds};
 ghost use Rattle.values.specs.Numbers.{field_number};

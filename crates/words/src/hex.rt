@@ -1,7 +1,7 @@
 ghost use Rattle.std.specs.Prelude.{◌≡◌, ◌<◌, ◌++◌, IfOk, vec_items, string_bytes, OnOk};
 ghost use Rattle.std.specs.Option.{option_map};
 ghost use Rattle.words.specs.Hex.{hex_digit, hex_byte, hex_word, hex_pair, hex_digits, glyph};
-ghost use Rattle.words.specs.Laws.{HexReadsBack as HexReadsBack};
+ghost use Rattle.words.specs.Laws.{HexReadsBack};
 
 use std::alloc::{AllocError, Global};
 

@@ -3,7 +3,7 @@ ghost use Rattle.std.specs.Option.{option_map};
 ghost use Rattle.std.specs.List.{flat_map};
 ghost use Rattle.words.specs.Hex.{hex_pair};
 ghost use Rattle.words.specs.Texts.{graphic, first_byte, unescaped, is_no_text, text_word, escaped, escaped_byte, echoed_byte, echoed};
-ghost use Rattle.words.specs.Laws.{TextReadsBack as TextReadsBack};
+ghost use Rattle.words.specs.Laws.{TextReadsBack};
 
 use crate::hex;
 use std::alloc::{AllocError, Global};
