@@ -1,7 +1,7 @@
 use Rattle.std.proofs.Common.{sym, arith}
 use Rattle.std.proofs.lemmas.Bool.{eqb-false}
 use Rattle.scan.proofs.Numerals.{no_digits, begun}
-use Rattle.scan.proofs.numbers.decimal.Goals as goal
+use Rattle.scan.proofs.numbers.number.Goals as goal
 
 pub returns-then-is_empty-clause-value : goal.returns-then-is_empty-clause-value
 returns-then-is_empty-clause-value c = no_digits _ _ (sym c.if-is_empty.ensures)
