@@ -39,7 +39,7 @@ impl Unsigned for u8 {
 
     ghost value = { λ n. n };
 
-    const MOST: u64 = 255;
+    const MOST: u64 = u8::MAX as u64;
 
     fn narrow(n: u64) -> u8 {
         n as u8
@@ -51,7 +51,7 @@ impl Unsigned for u16 {
 
     ghost value = { λ n. n };
 
-    const MOST: u64 = 65_535;
+    const MOST: u64 = u16::MAX as u64;
 
     fn narrow(n: u64) -> u16 {
         n as u16
