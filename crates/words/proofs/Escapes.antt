@@ -1,8 +1,12 @@
 -- A text's word read byte by byte.
-use Rattle.std.proofs.Common.{◌≡◌, ℕ, ◌<◌, Bool, true, false, cond, eqb, List, [], ◌∷◌, length, None, Some, Option, sym, refl, ◌∙◌, arith}
+use Rattle.std.proofs.Common.{◌≡◌, ℕ, ◌<◌, Bool, true, false, cond, eqb, List, [], ◌∷◌, length, None, Some, Option, sym, refl, ap, ◌∙◌, arith}
 use Rattle.std.specs.Str.{bytes_eq}
+use Rattle.std.specs.Option.{option_map}
+use Rattle.std.specs.Bool.{then_some}
+use Rattle.std.proofs.lemmas.List.{append-nil}
+use Rattle.words.proofs.Pairs.{after}
 use Rattle.std.proofs.Math.Bool.{and-true, and-false}
-use Rattle.std.proofs.lemmas.Bool.{cond-true, cond-false}
+use Rattle.std.proofs.lemmas.Bool.{cond-true, cond-false, ne_eqb}
 use Rattle.words.specs.Hex.{hex_byte, before}
 use Rattle.words.specs.Texts.{itself, leaving, first_byte, unescaped, is_no_text, text_word}
 
@@ -39,3 +43,10 @@ empty_text w e = sym (cond-true _ _ _ (is_no_text-eq w ∙ e))
 pub other_text : (w : List ℕ) → bytes_eq w (37 ∷ 45 ∷ []) ≡ false → unescaped w ≡ text_word w
 unfolding text_word
 other_text w e = sym (cond-false _ _ _ (is_no_text-eq w ∙ e))
+
+-- where no byte comes first, the word is at its end or is no text
+pub unescaped_end : {V : Type 0} (see : V → List ℕ) (v : V) (word left : List ℕ) → first_byte left ≡ None → after (see v) (unescaped left) ≡ unescaped word → option_map see (then_some (eqb (length left) 0) v) ≡ unescaped word
+unescaped_end see v word [] none so_far = sym (ap Some (append-nil (see v))) ∙ so_far
+unescaped_end see v word (c ∷ cs) none so_far =
+    let some : eqb (length (c ∷ cs)) 0 ≡ false = ne_eqb _ 0 (λ e. omega arith) in
+    ap (λ t. option_map see (then_some t v)) some ∙ ap (after (see v)) (sym (led-first_byte (c ∷ cs) (omega arith) ∙ ap led none)) ∙ so_far

@@ -27,14 +27,11 @@ fn unescape(heap: Global, word: &[u8]) -> Result<Option<Vec<u8>>, AllocError>
 {
     let mut out = Vec::new(heap);
     let mut left = word;
-    while !left.is_empty() {
-        let Some((b, rest)) = first(left) else {
-            return Ok(None);
-        };
+    while let Some((b, rest)) = first(left) {
         out.push(b)?;
         left = rest;
     }
-    Ok(Some(out))
+    Ok(left.is_empty().then_some(out))
 }
 
 // The bytes of a text as a command writes it.
