@@ -1,5 +1,5 @@
 use packed_log::log::PackedLog;
-use reports::raw::Raw;
+use reports::raw::{Numbers, Raw};
 use reports::report::Report;
 use sinks::records::Records;
 use sinks::sink::Sink;
@@ -8,16 +8,18 @@ use std::test::Fail;
 
 fn report() -> Result<Report, Fail> {
     let raw = Raw {
-        family: 1,
-        row: 2,
-        transport: 0,
-        processing: 0,
-        reading: 0,
-        spare: 0,
-        time: 7,
-        place: 5,
-        source: 0,
-        destination: 0,
+        numbers: Numbers {
+            family: 1,
+            row: 2,
+            transport: 0,
+            processing: 0,
+            reading: 0,
+            spare: 0,
+            time: 7,
+            place: 5,
+            source: 0,
+            destination: 0,
+        },
         id: b"",
         acquired: b"",
     };
