@@ -10,8 +10,8 @@ use values::report::{Family, Occupancy};
 
 // The value of a field, or that field where it is outside its bounds.
 fn checked<A, T: TryFrom<A>>(value: A, field: Field) -> Result<T, Field>
-    where
-        T::Error: Drop,
+where
+    T::Error: Drop,
     ensures { Converted T.try_from_gives value field result }
 {
     T::try_from(value).map_err(|_| field)

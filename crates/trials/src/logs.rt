@@ -26,10 +26,8 @@ fn registered(time: u64) -> Raw<&'static [u8]> {
 }
 
 fn bytes_of(raw: Raw<&[u8]>) -> Result<[u8; 41], Fail> {
-    match Report::make(&raw) {
-        Ok(report) => Ok(write(&report)),
-        Err(_) => Err(Fail::new("a report within its bounds")),
-    }
+    let report = Report::make(&raw).map_err(|_| Fail::new("a report within its bounds"))?;
+    Ok(write(&report))
 }
 
 // Two reports, one after the other.

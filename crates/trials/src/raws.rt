@@ -84,10 +84,7 @@ fn raw<'a>(numbers: Numbers, id: &'a [u8], acquired: &'a [u8]) -> Raw<&'a [u8]> 
 
 // The field that is refused, or 0.
 fn refused(raw: Raw<&[u8]>) -> u8 {
-    match Report::make(&raw) {
-        Ok(_) => 0,
-        Err(field) => u8::from(field),
-    }
+    Report::make(&raw).map_or_else(u8::from, |_| 0)
 }
 
 // A field, a number in it, and whether that is refused there: each bound, and one past it.

@@ -7,7 +7,7 @@ use std::process::Abort;
 use std::test::Fail;
 
 fn report() -> Result<Report, Fail> {
-    let raw = Raw {
+    let raw: Raw<&[u8]> = Raw {
         numbers: Numbers {
             family: 1,
             row: 2,
@@ -23,10 +23,7 @@ fn report() -> Result<Report, Fail> {
         id: b"",
         acquired: b"",
     };
-    match Report::make(&raw) {
-        Ok(report) => Ok(report),
-        Err(_) => Err(Fail::new("a report within its bounds")),
-    }
+    Report::make(&raw).map_err(|_| Fail::new("a report within its bounds"))
 }
 
 // Puts into a sink until it is full, for which there has to be room this often.
