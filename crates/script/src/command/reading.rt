@@ -7,8 +7,10 @@ use crate::command::Command;
 use crate::draft::Draft;
 use crate::mistake::{Form, Mistake};
 use crate::parts::{bytes, number, text};
+use reports::raw::{Numbers, Raw};
 use std::alloc::Global;
 use values::field::Field;
+use values::report::Family;
 
 // A substrate report by its ten words.
 fn substrate<'a>(heap: Global, words: &[&'a [u8]]) -> Result<Draft, Mistake<'a>>
@@ -27,16 +29,19 @@ fn substrate<'a>(heap: Global, words: &[&'a [u8]]) -> Result<Draft, Mistake<'a>>
     let processing = number(Field::Processing, processing)?;
     let reading = number(Field::Reading, reading)?;
     let acquired = text(heap, Field::Acquired, acquired)?;
-    Ok(Draft {
-        family: 0,
-        row,
-        transport,
-        processing,
-        reading,
-        time,
-        place,
-        source,
-        destination,
+    Ok(Raw {
+        numbers: Numbers {
+            family: u8::from(Family::Substrate),
+            row,
+            transport,
+            processing,
+            reading,
+            spare: 0,
+            time,
+            place,
+            source,
+            destination,
+        },
         id,
         acquired,
     })
@@ -58,16 +63,19 @@ fn location<'a>(heap: Global, words: &[&'a [u8]]) -> Result<Draft, Mistake<'a>>
         Some(id) => text(heap, Field::Id, id)?,
         None => Vec::new(heap),
     };
-    Ok(Draft {
-        family: 1,
-        row,
-        transport: 0,
-        processing: 0,
-        reading: 0,
-        time,
-        place,
-        source: 0,
-        destination: 0,
+    Ok(Raw {
+        numbers: Numbers {
+            family: u8::from(Family::Location),
+            row,
+            transport: 0,
+            processing: 0,
+            reading: 0,
+            spare: 0,
+            time,
+            place,
+            source: 0,
+            destination: 0,
+        },
         id,
         acquired: Vec::new(heap),
     })
