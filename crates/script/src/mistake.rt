@@ -89,14 +89,27 @@ impl fmt::Display for Mistake<'_> {
             Mistake::Nothing => f.write_str("no words"),
             Mistake::NoCommand(word) => write!(f, "no command '{}'", EchoedWord(word)),
             Mistake::NoKind(word) => {
-                write!(f, "no report '{}', only substrate and location", EchoedWord(word))
+                write!(
+                    f,
+                    "no report '{}', only substrate and location",
+                    EchoedWord(word)
+                )
             }
             Mistake::Count(form, n) => write!(f, "{form} {n}"),
             Mistake::Number(field, word, most) => {
-                write!(f, "{field} '{}' is no number up to {most}", EchoedWord(word))
+                write!(
+                    f,
+                    "{field} '{}' is no number up to {most}",
+                    EchoedWord(word)
+                )
             }
             Mistake::Text(field, word) => {
-                write!(f, "{field} '{}' is no text: {}", EchoedWord(word), no_text(word))
+                write!(
+                    f,
+                    "{field} '{}' is no text: {}",
+                    EchoedWord(word),
+                    no_text(word)
+                )
             }
             Mistake::OddHex(n) => write!(f, "HEX has {n} digits, an odd number"),
             Mistake::NoHex => f.write_str("HEX has a character that is no hex digit"),

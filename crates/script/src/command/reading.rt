@@ -16,7 +16,19 @@ use values::report::Family;
 fn substrate<'a>(heap: Global, words: &[&'a [u8]]) -> Result<Draft, Mistake<'a>>
     ensures { Reads drafted (substrate_words (map (λ x. x.now) words.now)) result }
 {
-    let [row, time, id, place, source, destination, transport, processing, reading, acquired] = words else {
+    let [
+        row,
+        time,
+        id,
+        place,
+        source,
+        destination,
+        transport,
+        processing,
+        reading,
+        acquired,
+    ] = words
+    else {
         return Err(Mistake::Count(Form::Substrate, words.len()));
     };
     let row = number(Field::Row, row)?;
