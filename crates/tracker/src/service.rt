@@ -95,12 +95,12 @@ fn after(change: Option<Change>, wafer: Wafer, at_station: bool) -> Option<Wafer
     ensures value { (at : Sites) → station at (held wafer).place ≡ at_station → option_map held result ≡ went at (called wafer.id) (held wafer) (option_map change_meant change) }
     ensures id { IfSome result (λ w. w.id ≡ wafer.id) }
 {
-    match change {
-        None => Some(wafer),
-        Some(change) => change
-            .is_open(&wafer, at_station)
-            .then(|| change.made(wafer)),
-    }
+    let Some(change) = change else {
+        return Some(wafer);
+    };
+    change
+        .is_open(&wafer, at_station)
+        .then(|| change.made(wafer))
 }
 
 // Whether the exit, where there is one, is open to the wafer.
