@@ -1,7 +1,7 @@
 -- The plan of the cabinet and the place rows that it is read from.
-use Rattle.std.proofs.Common.{◌≡◌, ℕ, zero, suc, Bool, true, false, cond, ◌&&◌, eqb, List, [], ◌∷◌, set, Some, None, Option, refl, ap, ◌∙◌}
+use Rattle.std.proofs.Common.{◌≡◌, ℕ, zero, suc, Bool, true, false, cond, ◌&&◌, eqb, List, [], ◌∷◌, set, Some, None, Option, refl, ap, ◌∙◌, is_some, position}
 use Rattle.std.specs.Option.{option_map}
-use Rattle.table.specs.Lookup.{bears, later, occupied, position, row_at}
+use Rattle.table.specs.Lookup.{bears, row_at}
 use Rattle.model.specs.Calls.{promised_to}
 use Rattle.model.specs.Places.{code_at, index, listed, sites}
 use Rattle.model.specs.Wafers.{Text}
@@ -22,10 +22,10 @@ module _ {N : Type 0} where
   plan-sites (None ∷ rows) p = plan-sites rows p
   plan-sites (Some r ∷ rows) p = either_row spot_of (eqb (coded r.code) p) r (sites (plan rows) p) (place_row rows p) (plan-sites rows p)
 
-  pub plan-listed : (rows : List (Option (Place N))) (p : ℕ) → listed (sites (plan rows)) p ≡ occupied (place_row rows p)
-  plan-listed rows p = ap occupied (plan-sites rows p) ∙ in_both (place_row rows p)
+  pub plan-listed : (rows : List (Option (Place N))) (p : ℕ) → listed (sites (plan rows)) p ≡ is_some (place_row rows p)
+  plan-listed rows p = ap is_some (plan-sites rows p) ∙ in_both (place_row rows p)
     where
-      in_both : (o : Option (Place N)) → occupied (option_map spot_of o) ≡ occupied o
+      in_both : (o : Option (Place N)) → is_some (option_map spot_of o) ≡ is_some o
       in_both None = refl
       in_both (Some r) = refl
 
