@@ -18,9 +18,9 @@ fn codes_line(heap: Global, s: &Substrate) -> Result<String, AllocError>
 fn states_line(heap: Global, s: &Substrate) -> Result<String, AllocError>
     ensures { IfOk result (λ t. string_bytes t ≡ states_line (substrate_fields s.now)) }
 {
-    let transport = s.transport.number();
-    let processing = s.processing.number();
-    let reading = s.reading.number();
+    let transport = u8::from(s.transport);
+    let processing = u8::from(s.processing);
+    let reading = u8::from(s.reading);
     let acquired = escaped(heap, s.acquired.as_str().as_bytes())?;
     format!(in heap; "{transport} {processing} {reading} {acquired}")
 }
@@ -28,7 +28,7 @@ fn states_line(heap: Global, s: &Substrate) -> Result<String, AllocError>
 fn substrate_line(heap: Global, s: &Substrate) -> Result<String, AllocError>
     ensures { IfOk result (λ t. string_bytes t ≡ substrate_line (substrate_fields s.now)) }
 {
-    let row = s.transition.number();
+    let row = u8::from(s.transition);
     let time = s.time.millis();
     let id = escaped(heap, s.id.text().as_str().as_bytes())?;
     let codes = codes_line(heap, s)?;

@@ -28,7 +28,7 @@ fn fault(heap: Global, fault: LogFault) -> Result<String, AllocError>
     match fault.fault {
         LayoutFault::Outside(field) => {
             let number = 15u8;
-            let field = field.number();
+            let field = u8::from(field);
             format!(in heap; "refused {number} {field} at {report}")
         }
         LayoutFault::Short => {
@@ -94,7 +94,7 @@ fn refusal(heap: Global, field: Field) -> Result<String, AllocError>
     ensures { IfOk result (λ t. string_bytes t ≡ refusal_text (out_of_bounds (field_number field))) }
 {
     let number = 15u8;
-    let field = field.number();
+    let field = u8::from(field);
     format!(in heap; "refused {number} {field}")
 }
 

@@ -19,25 +19,25 @@ use values::transition::Transition;
 fn row(number: u8) -> Result<Transition, Field>
     ensures { Checked transition_number number (is_transition number) Field.Row result }
 {
-    Transition::of(number).ok_or(Field::Row)
+    Transition::try_from(number).map_err(|_| Field::Row)
 }
 
 fn transport(number: u8) -> Result<Transport, Field>
     ensures { Checked transport_number number (is_transport number) Field.Transport result }
 {
-    Transport::of(number).ok_or(Field::Transport)
+    Transport::try_from(number).map_err(|_| Field::Transport)
 }
 
 fn processing(number: u8) -> Result<Processing, Field>
     ensures { Checked processing_number number (is_processing number) Field.Processing result }
 {
-    Processing::of(number).ok_or(Field::Processing)
+    Processing::try_from(number).map_err(|_| Field::Processing)
 }
 
 fn reading(number: u8) -> Result<Reading, Field>
     ensures { Checked reading_number number (is_reading number) Field.Reading result }
 {
-    Reading::of(number).ok_or(Field::Reading)
+    Reading::try_from(number).map_err(|_| Field::Reading)
 }
 
 fn moment_of(number: u64) -> Result<Time, Field>

@@ -7,19 +7,19 @@ use values::states::{Processing, Reading, Transport};
 pub fn is_at(state: Transport, other: Transport) -> bool
     ensures { result ≡ (transport_number state == transport_number other) }
 {
-    state.number() == other.number()
+    state == other
 }
 
 pub fn is_in(state: Processing, other: Processing) -> bool
     ensures { result ≡ (processing_number state == processing_number other) }
 {
-    state.number() == other.number()
+    state == other
 }
 
 pub fn is_read(state: Reading, other: Reading) -> bool
     ensures { result ≡ (reading_number state == reading_number other) }
 {
-    state.number() == other.number()
+    state == other
 }
 
 // The work on the wafer is over.

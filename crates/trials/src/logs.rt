@@ -85,7 +85,7 @@ fn damaged(rt: HostRuntime) -> Result<(), Fail> {
                 fault: LayoutFault::Outside(field),
             },
         ) => {
-            assert!(rt; report == 2 && field.number() == 6);
+            assert!(rt; report == 2 && u8::from(field) == 6);
             Ok(())
         },
         _ => Err(Fail::new("a field outside its bounds")),

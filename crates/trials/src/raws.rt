@@ -110,7 +110,7 @@ fn raw<'a>(n: Numbers, id: &'a [u8], acquired: &'a [u8]) -> Raw<'a> {
 fn refused(raw: Raw) -> u8 {
     match Report::make(&raw) {
         Ok(_) => 0,
-        Err(field) => field.number(),
+        Err(field) => u8::from(field),
     }
 }
 

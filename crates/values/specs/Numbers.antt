@@ -1,5 +1,7 @@
 -- The numbers of states, rows and fields, and the numbers that are one.
-use Rattle.std.specs.Prelude.{ℕ, Bool, cond, ◌&&◌, ◌||◌, Some, None, Option, ◌==◌, nat_le}
+use Rattle.std.specs.Prelude.{◌≡◌, ℕ, Bool, cond, ◌&&◌, ◌||◌, Some, None, Option, Result, ◌==◌, nat_le}
+use Rattle.std.specs.Option.{option_map}
+use Rattle.std.specs.Result.{result_ok}
 use Rattle.values.specs.declared.states.Transport.{Transport}
 use Rattle.values.specs.declared.states.Transport.TheVariants as transport
 use Rattle.values.specs.declared.states.Processing.{Processing}
@@ -8,12 +10,20 @@ use Rattle.values.specs.declared.states.Reading.{Reading}
 use Rattle.values.specs.declared.states.Reading.TheVariants as reading
 use Rattle.values.specs.declared.transition.Transition.{Transition}
 use Rattle.values.specs.declared.transition.Transition.TheVariants as transition
+use Rattle.values.specs.declared.report.Family.{Family}
+use Rattle.values.specs.declared.report.Family.TheVariants as family
+use Rattle.values.specs.declared.report.Occupancy.{Occupancy}
+use Rattle.values.specs.declared.report.Occupancy.TheVariants as occupancy
 use Rattle.values.specs.declared.field.Field.{Field}
 use Rattle.values.specs.declared.field.Field.TheVariants as field
 
 -- a value, where it passes
 abbrev pub passed : {X : Type 0} → Bool → X → Option X
 passed t x = cond t (Some x) None
+
+-- what a conversion gives: the value that shows what is there, or an error where nothing is
+abbrev pub Yields : {X Y E : Type 0} → (X → Y) → Option Y → Result X E → Type 0
+Yields see there r = option_map see (result_ok r) ≡ there
 
 abbrev pub transport_number : Transport → ℕ
 transport_number transport.AtSource = 0
@@ -59,6 +69,14 @@ transition_number transition.ReadOther = 19
 transition_number transition.Proceeded = 20
 transition_number transition.Cancelled = 21
 
+abbrev pub family_number : Family → ℕ
+family_number family.Substrate = 0
+family_number family.Location = 1
+
+abbrev pub occupancy_number : Occupancy → ℕ
+occupancy_number occupancy.Occupied = 1
+occupancy_number occupancy.Unoccupied = 2
+
 abbrev pub field_number : Field → ℕ
 field_number field.Family = 1
 field_number field.Row = 2
@@ -89,6 +107,14 @@ is_reading n = nat_le n 4
 abbrev pub is_transition : ℕ → Bool
 is_transition n = (nat_le 1 n && nat_le n 14) || (nat_le 17 n && nat_le n 21)
 
+-- of families: 0 and 1
+abbrev pub is_family : ℕ → Bool
+is_family n = nat_le n 1
+
+-- of the rows of a location report: 1 and 2
+abbrev pub is_occupancy : ℕ → Bool
+is_occupancy n = nat_le 1 n && nat_le n 2
+
 abbrev pub transport_of : ℕ → Option ℕ
 transport_of n = passed (is_transport n) n
 
@@ -100,3 +126,9 @@ reading_of n = passed (is_reading n) n
 
 abbrev pub transition_of : ℕ → Option ℕ
 transition_of n = passed (is_transition n) n
+
+abbrev pub family_of : ℕ → Option ℕ
+family_of n = passed (is_family n) n
+
+abbrev pub occupancy_of : ℕ → Option ℕ
+occupancy_of n = passed (is_occupancy n) n

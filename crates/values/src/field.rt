@@ -2,7 +2,7 @@ ghost use Rattle.std.specs.Prelude.{◌≡◌};
 ghost use Rattle.values.specs.Numbers.{field_number};
 
 // The twelve fields of a report, in the order of the packed layout.
-#[derive(Clone, Copy)]
+#[derive(Clone, Copy, Debug, PartialEq, Eq)]
 pub enum Field {
     Family = 1,
     Row = 2,
@@ -18,10 +18,10 @@ pub enum Field {
     Acquired = 12,
 }
 
-impl Field {
-    pub fn number(self) -> u8
-        ensures { result ≡ field_number self }
-    {
-        self as u8
+impl From<Field> for u8 {
+    ghost from_gives = { λ x r. r ≡ field_number x };
+
+    fn from(value: Field) -> u8 {
+        value as u8
     }
 }

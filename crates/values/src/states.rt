@@ -1,9 +1,10 @@
 ghost use Rattle.std.specs.Prelude.{◌≡◌};
-ghost use Rattle.std.specs.Option.{option_map};
-ghost use Rattle.values.specs.Numbers.{transport_number, processing_number, reading_number, transport_of, processing_of, reading_of};
+ghost use Rattle.values.specs.Numbers.{transport_number, processing_number, reading_number, transport_of, processing_of, reading_of, Yields};
+
+use crate::bounds::OutOfBounds;
 
 // Where a wafer stands on its way.
-#[derive(Clone, Copy)]
+#[derive(Clone, Copy, Debug, PartialEq, Eq)]
 pub enum Transport {
     AtSource = 0,
     AtWork = 1,
@@ -11,7 +12,7 @@ pub enum Transport {
 }
 
 // What has been done to a wafer.
-#[derive(Clone, Copy)]
+#[derive(Clone, Copy, Debug, PartialEq, Eq)]
 pub enum Processing {
     NeedsProcessing = 0,
     InProcess = 1,
@@ -25,7 +26,7 @@ pub enum Processing {
 }
 
 // How far the reading of a wafer's ID has come.
-#[derive(Clone, Copy)]
+#[derive(Clone, Copy, Debug, PartialEq, Eq)]
 pub enum Reading {
     NotUsed = 0,
     NotConfirmed = 1,
@@ -34,67 +35,79 @@ pub enum Reading {
     ConfirmationFailed = 4,
 }
 
-impl Transport {
-    pub fn number(self) -> u8
-        ensures { result ≡ transport_number self }
-    {
-        self as u8
-    }
+impl From<Transport> for u8 {
+    ghost from_gives = { λ x r. r ≡ transport_number x };
 
-    pub fn of(number: u8) -> Option<Transport>
-        ensures { option_map transport_number result ≡ transport_of number }
-    {
+    fn from(value: Transport) -> u8 {
+        value as u8
+    }
+}
+
+impl TryFrom<u8> for Transport {
+    type Error = OutOfBounds;
+
+    ghost try_from_gives = { λ n r. Yields transport_number (transport_of n) r };
+
+    fn try_from(number: u8) -> Result<Transport, OutOfBounds> {
         match number {
-            0 => Some(Transport::AtSource),
-            1 => Some(Transport::AtWork),
-            2 => Some(Transport::AtDestination),
-            _ => None,
+            0 => Ok(Transport::AtSource),
+            1 => Ok(Transport::AtWork),
+            2 => Ok(Transport::AtDestination),
+            _ => Err(OutOfBounds),
         }
     }
 }
 
-impl Processing {
-    pub fn number(self) -> u8
-        ensures { result ≡ processing_number self }
-    {
-        self as u8
-    }
+impl From<Processing> for u8 {
+    ghost from_gives = { λ x r. r ≡ processing_number x };
 
-    pub fn of(number: u8) -> Option<Processing>
-        ensures { option_map processing_number result ≡ processing_of number }
-    {
+    fn from(value: Processing) -> u8 {
+        value as u8
+    }
+}
+
+impl TryFrom<u8> for Processing {
+    type Error = OutOfBounds;
+
+    ghost try_from_gives = { λ n r. Yields processing_number (processing_of n) r };
+
+    fn try_from(number: u8) -> Result<Processing, OutOfBounds> {
         match number {
-            0 => Some(Processing::NeedsProcessing),
-            1 => Some(Processing::InProcess),
-            2 => Some(Processing::Processed),
-            3 => Some(Processing::Aborted),
-            4 => Some(Processing::Stopped),
-            5 => Some(Processing::Rejected),
-            6 => Some(Processing::Lost),
-            7 => Some(Processing::Skipped),
-            15 => Some(Processing::NoneYet),
-            _ => None,
+            0 => Ok(Processing::NeedsProcessing),
+            1 => Ok(Processing::InProcess),
+            2 => Ok(Processing::Processed),
+            3 => Ok(Processing::Aborted),
+            4 => Ok(Processing::Stopped),
+            5 => Ok(Processing::Rejected),
+            6 => Ok(Processing::Lost),
+            7 => Ok(Processing::Skipped),
+            15 => Ok(Processing::NoneYet),
+            _ => Err(OutOfBounds),
         }
     }
 }
 
-impl Reading {
-    pub fn number(self) -> u8
-        ensures { result ≡ reading_number self }
-    {
-        self as u8
-    }
+impl From<Reading> for u8 {
+    ghost from_gives = { λ x r. r ≡ reading_number x };
 
-    pub fn of(number: u8) -> Option<Reading>
-        ensures { option_map reading_number result ≡ reading_of number }
-    {
+    fn from(value: Reading) -> u8 {
+        value as u8
+    }
+}
+
+impl TryFrom<u8> for Reading {
+    type Error = OutOfBounds;
+
+    ghost try_from_gives = { λ n r. Yields reading_number (reading_of n) r };
+
+    fn try_from(number: u8) -> Result<Reading, OutOfBounds> {
         match number {
-            0 => Some(Reading::NotUsed),
-            1 => Some(Reading::NotConfirmed),
-            2 => Some(Reading::WaitingForHost),
-            3 => Some(Reading::Confirmed),
-            4 => Some(Reading::ConfirmationFailed),
-            _ => None,
+            0 => Ok(Reading::NotUsed),
+            1 => Ok(Reading::NotConfirmed),
+            2 => Ok(Reading::WaitingForHost),
+            3 => Ok(Reading::Confirmed),
+            4 => Ok(Reading::ConfirmationFailed),
+            _ => Err(OutOfBounds),
         }
     }
 }

@@ -1,9 +1,10 @@
 ghost use Rattle.std.specs.Prelude.{◌≡◌};
-ghost use Rattle.std.specs.Option.{option_map};
-ghost use Rattle.values.specs.Numbers.{transition_number, transition_of};
+ghost use Rattle.values.specs.Numbers.{transition_number, transition_of, Yields};
+
+use crate::bounds::OutOfBounds;
 
 // The rows of the table of transitions, each by what it says of the wafer.
-#[derive(Clone, Copy)]
+#[derive(Clone, Copy, Debug, PartialEq, Eq)]
 pub enum Transition {
     Registered = 1,
     LeftSource = 2,
@@ -26,37 +27,41 @@ pub enum Transition {
     Cancelled = 21,
 }
 
-impl Transition {
-    pub fn number(self) -> u8
-        ensures { result ≡ transition_number self }
-    {
-        self as u8
-    }
+impl From<Transition> for u8 {
+    ghost from_gives = { λ x r. r ≡ transition_number x };
 
-    pub fn of(number: u8) -> Option<Transition>
-        ensures { option_map transition_number result ≡ transition_of number }
-    {
+    fn from(value: Transition) -> u8 {
+        value as u8
+    }
+}
+
+impl TryFrom<u8> for Transition {
+    type Error = OutOfBounds;
+
+    ghost try_from_gives = { λ n r. Yields transition_number (transition_of n) r };
+
+    fn try_from(number: u8) -> Result<Transition, OutOfBounds> {
         match number {
-            1 => Some(Transition::Registered),
-            2 => Some(Transition::LeftSource),
-            3 => Some(Transition::BackAtSource),
-            4 => Some(Transition::MovedAtWork),
-            5 => Some(Transition::ReachedDestination),
-            6 => Some(Transition::LeftDestination),
-            7 => Some(Transition::Unloaded),
-            8 => Some(Transition::Corrected),
-            9 => Some(Transition::Removed),
-            10 => Some(Transition::NeedsProcessing),
-            11 => Some(Transition::Started),
-            12 => Some(Transition::Ended),
-            13 => Some(Transition::Returned),
-            14 => Some(Transition::GivenUp),
-            17 => Some(Transition::ReadSame),
-            18 => Some(Transition::ReadFailed),
-            19 => Some(Transition::ReadOther),
-            20 => Some(Transition::Proceeded),
-            21 => Some(Transition::Cancelled),
-            _ => None,
+            1 => Ok(Transition::Registered),
+            2 => Ok(Transition::LeftSource),
+            3 => Ok(Transition::BackAtSource),
+            4 => Ok(Transition::MovedAtWork),
+            5 => Ok(Transition::ReachedDestination),
+            6 => Ok(Transition::LeftDestination),
+            7 => Ok(Transition::Unloaded),
+            8 => Ok(Transition::Corrected),
+            9 => Ok(Transition::Removed),
+            10 => Ok(Transition::NeedsProcessing),
+            11 => Ok(Transition::Started),
+            12 => Ok(Transition::Ended),
+            13 => Ok(Transition::Returned),
+            14 => Ok(Transition::GivenUp),
+            17 => Ok(Transition::ReadSame),
+            18 => Ok(Transition::ReadFailed),
+            19 => Ok(Transition::ReadOther),
+            20 => Ok(Transition::Proceeded),
+            21 => Ok(Transition::Cancelled),
+            _ => Err(OutOfBounds),
         }
     }
 }

@@ -1,7 +1,9 @@
 ghost use Rattle.std.specs.Prelude.{◌≡◌};
 ghost use Rattle.std.specs.Option.{option_map};
+ghost use Rattle.values.specs.Numbers.{Yields};
 ghost use Rattle.values.specs.Values.{moment, time_of};
 
+use crate::bounds::OutOfBounds;
 use crate::time::Time;
 
 impl Time {
@@ -21,5 +23,15 @@ impl Time {
         ensures { result ≡ moment self }
     {
         self.millis
+    }
+}
+
+impl TryFrom<u64> for Time {
+    type Error = OutOfBounds;
+
+    ghost try_from_gives = { λ n r. Yields moment (time_of n) r };
+
+    fn try_from(millis: u64) -> Result<Time, OutOfBounds> {
+        Time::new(millis).ok_or(OutOfBounds)
     }
 }
