@@ -3,11 +3,12 @@ use Rattle.std.proofs.Common.{◌≡◌, ℕ, suc, pred, ◌+◌, ◌≤◌, Boo
 use Rattle.std.specs.Option.{option_map, option_flatten}
 use Rattle.std.specs.Str.{bytes_eq}
 use Rattle.std.proofs.lemmas.Bool.{false≢true, cond-true, cond-false, and_left, and_right, and_from, lt-ltb, le-ltb, not_from_true, eqb-true}
-use Rattle.table.specs.Lookup.{bears, in_use, lookup, placed, row_at, row_found}
+use Rattle.std.proofs.lemmas.List.Sums.{count_by-le-length}
+use Rattle.table.specs.Lookup.{bears, in_use, placed, row_at, row_found}
 use Rattle.table.specs.Laws.{OneMore, OneLess, Others}
-use Rattle.table.proofs.Places.{leads-position, count_most, length-placed}
-use Rattle.table.proofs.Frees.{full_leads}
-use Rattle.table.proofs.Keys.{lookup-leads}
+use Rattle.table.proofs.Places.{length-placed}
+use Rattle.table.proofs.Frees.{full-position}
+use Rattle.table.proofs.Keys.{found-position, lookup-position}
 use Rattle.model.specs.Wafers.{Text, Wafer as Kept}
 use Rattle.model.specs.Places.{Plan, sites, listed, put_text, put_code}
 use Rattle.texts.specs.Meaning.{called}
@@ -21,42 +22,16 @@ use Rattle.wafers.proofs.Views.{text_put, code_put, code-kept}
 use Rattle.wafers.proofs.Plans.{plan-set, plan-listed}
 use Rattle.cabinet.specs.Views.{View, notes_of, view_of, stored, inserted, removed, occupied_by, noted}
 
--- a row is found exactly if there is a position for it
-found_at : {R M : Type 0} (says : R → M) (tells : M → M → Bool) (rows : List (Option R)) (m : M) → is_some (lookup says tells rows m) ≡ is_some (position (bears says tells m) rows)
-found_at says tells [] m = refl
-found_at says tells (None ∷ rows) m = found_at says tells rows m ∙ once_later (position (bears says tells m) rows)
-  where
-    once_later : (o : Option ℕ) → is_some o ≡ is_some (later o)
-    once_later None = refl
-    once_later (Some i) = refl
-found_at says tells (Some r ∷ rows) m = go (tells (says r) m) (found_at says tells rows m)
-  where
-    once_later : (o : Option ℕ) → is_some o ≡ is_some (later o)
-    once_later None = refl
-    once_later (Some i) = refl
-
-    go : (b : Bool) → is_some (lookup says tells rows m) ≡ is_some (position (bears says tells m) rows) → is_some (cond b (Some r) (lookup says tells rows m)) ≡ is_some (cond b (Some 0) (later (position (bears says tells m) rows)))
-    go true e = refl
-    go false e = e ∙ once_later (position (bears says tells m) rows)
-
 pub occupied_mapped : {X Y : Type 0} (f : X → Y) (o : Option X) → is_some (option_map f o) ≡ is_some o
 occupied_mapped f None = refl
 occupied_mapped f (Some x) = refl
-
-pub vacant_mapped : {X Y : Type 0} (f : X → Y) (o : Option X) → is_none (option_map f o) ≡ is_none o
-vacant_mapped f None = refl
-vacant_mapped f (Some x) = refl
-
-vacant_not : {X : Type 0} (o : Option X) → is_none o ≡ not (is_some o)
-vacant_not None = refl
-vacant_not (Some x) = refl
 
 abbrev id_of : Wafer → Text
 id_of w = called w.id
 
 -- whether a wafer is registered, by the position found for it
 pub registered-at : (rows : List (Option Wafer)) (k : Text) → is_some (wafers_of rows k) ≡ is_some (position (bears id_of bytes_eq k) rows)
-registered-at rows k = occupied_mapped held (wafer_row rows k) ∙ found_at id_of bytes_eq rows k
+registered-at rows k = occupied_mapped held (wafer_row rows k) ∙ found-position id_of bytes_eq rows k
 
 module _ {N : Type 0} where
   abbrev with_wafers : (Text → Option Kept) → ℕ → ℕ → List (Option (Place N)) → View N
@@ -80,7 +55,7 @@ module _ {N : Type 0} where
   pub known_shows : (wafers : List (Option Wafer)) (places : List (Option (Place N))) (id : Text) (w : Kept) → is_some (position (bears id_of bytes_eq id) wafers) ≡ true → view_of wafers places ≡ inserted id w (view_of wafers places)
   known_shows wafers places id w h =
       sym (cond-false (is_none (wafers_of wafers id) && ltb (in_use wafers) (length wafers)) _ _
-      (and_left _ _ (vacant_not (wafers_of wafers id) ∙ not_from_true _ (registered-at wafers id ∙ h))))
+      (and_left _ _ (not_from_true _ (registered-at wafers id ∙ h))))
 
   pub inserted_shows : (wafers wafers' : List (Option Wafer)) (places : List (Option (Place N))) (w : Wafer) (r : Option ℕ)
       → is_some (position (bears id_of bytes_eq (id_of w)) wafers) ≡ false
@@ -90,10 +65,10 @@ module _ {N : Type 0} where
   inserted_shows wafers wafers' places w r n p e u own others = go r p e u own
     where
       absent : is_some (wafer_row wafers (id_of w)) ≡ false
-      absent = found_at id_of bytes_eq wafers (id_of w) ∙ n
+      absent = found-position id_of bytes_eq wafers (id_of w) ∙ n
 
       unknown : is_none (wafers_of wafers (id_of w)) ≡ true
-      unknown = vacant_mapped held (wafer_row wafers (id_of w)) ∙ vacant_not (wafer_row wafers (id_of w)) ∙ ap not absent
+      unknown = ap not (occupied_mapped held (wafer_row wafers (id_of w)) ∙ absent)
 
       none : (o : Option Wafer) → is_some o ≡ false → o ≡ None
       none None x = refl
@@ -103,12 +78,12 @@ module _ {N : Type 0} where
           → (is_some r ≡ true → wafer_row wafers (id_of w) ≡ None → wafer_row wafers' (id_of w) ≡ Some w)
           → view_of wafers' places ≡ inserted (id_of w) (held w) (view_of wafers places)
       go None p e u own =
-          let full : in_use wafers ≡ length wafers = (full_leads wafers (position is_none wafers) (leads-position is_none wafers)).0 (sym p) in
+          let full : in_use wafers ≡ length wafers = (full-position wafers).0 (sym p) in
           ap (λ ws. view_of ws places) e
           ∙ sym (cond-false (is_none (wafers_of wafers (id_of w)) && ltb (in_use wafers) (length wafers)) _ _ (and_right (is_none (wafers_of wafers (id_of w))) (ltb (in_use wafers) (length wafers)) (le-ltb (in_use wafers) (length wafers) (omega arith))))
       go (Some i) p e u own =
-          let most : in_use wafers ≤ length wafers = count_most is_some wafers in
-          let open_row : in_use wafers ≡ length wafers → ⊥ = λ x. absurd (some_not_none i (p ∙ (full_leads wafers (position is_none wafers) (leads-position is_none wafers)).1 x)) in
+          let most : in_use wafers ≤ length wafers = count_by-le-length is_some wafers in
+          let open_row : in_use wafers ≡ length wafers → ⊥ = λ x. absurd (some_not_none i (p ∙ (full-position wafers).1 x)) in
           wafers_path (wafers_of wafers') (put_text (id_of w) (Some (held w)) (wafers_of wafers)) (in_use wafers') (suc (in_use wafers)) _ _ places
           (text_put (option_map held) (wafer_row wafers') (wafer_row wafers) (id_of w) others (Some w) (own refl (none (wafer_row wafers (id_of w)) absent))) (u ∙ omega arith) (ap length e ∙ length-set wafers i (Some w))
           ∙ sym (cond-true (is_none (wafers_of wafers (id_of w)) && ltb (in_use wafers) (length wafers)) _ _ (and_from _ _ unknown (lt-ltb (in_use wafers) (length wafers) (omega (arith, most, open_row)))))
@@ -145,7 +120,7 @@ module _ {N : Type 0} where
   plan-kept : (places places' : List (Option (Place N))) (p : ℕ) (old new : Place N) (r : Option ℕ) → r ≡ position (bears code_of eqb p) places → place_row places p ≡ Some old → places' ≡ placed places (Some new) r → spot_of new ≡ spot_of old → plan places' ≡ plan places
   plan-kept places places' p old new None a b e s = ap plan e
   plan-kept places places' p old new (Some i) a b e s =
-      let at_i : row_at places i ≡ Some old = ap (row_found places) a ∙ sym (lookup-leads code_of eqb places p (position (bears code_of eqb p) places) (leads-position (bears code_of eqb p) places)) ∙ b in
+      let at_i : row_at places i ≡ Some old = ap (row_found places) a ∙ sym (lookup-position code_of eqb places p) ∙ b in
       ap plan e ∙ plan-set places i (Some new) (ap Some s ∙ ap (option_map spot_of) (sym at_i))
 
   abbrev with_places : List (Option Wafer) → (ℕ → Option Text) → Plan → (ℕ → Option N) → View N
@@ -199,4 +174,4 @@ module _ {N : Type 0} where
 
   -- a row that is found has a position
   pub there : (places : List (Option (Place N))) (p : ℕ) (old : Place N) (r : Option ℕ) → place_row places p ≡ Some old → r ≡ position (bears code_of eqb p) places → is_some r ≡ true
-  there places p old r e a = ap is_some a ∙ sym (found_at code_of eqb places p) ∙ ap is_some e
+  there places p old r e a = ap is_some a ∙ sym (found-position code_of eqb places p) ∙ ap is_some e

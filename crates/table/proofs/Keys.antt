@@ -1,10 +1,10 @@
 -- What looking up by key gives, before and after one row of the table changes.
-use Rattle.std.proofs.Common.{◌≡◌, ℕ, zero, suc, ◌<◌, Bool, true, false, cond, List, [], ◌∷◌, length, set, Some, None, Decides, Option, sym, refl, ap, ◌∙◌, subst, ⊎_elim, arith}
+use Rattle.std.proofs.Common.{◌≡◌, ℕ, zero, suc, ◌<◌, Bool, true, false, cond, List, [], ◌∷◌, length, set, is_some, Some, None, Decides, Option, sym, refl, ap, ◌∙◌, subst, ⊎_elim, arith}
 use Rattle.std.proofs.lemmas.List.{get_or_past}
 use Rattle.std.proofs.lemmas.Bool.{both_ways, cases_Bool, cases_lt, cond-true, cond-false, false≢true}
 use Rattle.std.specs.List.{count_by, position}
 use Rattle.table.specs.Lookup.{bears, lookup, row_at, row_found, Stands}
-use Rattle.table.specs.Laws.{First, Found, NoneFound}
+use Rattle.table.specs.Laws.{First, NoneFound}
 use Rattle.table.proofs.Places.{NoneBelow, Leads, leads-position, count_some}
 
 -- a row in use stands within the table
@@ -15,9 +15,9 @@ within (x ∷ rows) (suc i) r e = omega (arith, within rows i r e)
 
 module _ {R M : Type 0} (says : R → M) (tells : M → M → Bool) where
   -- what has a key is a row in use
-  pub bears_some : (m : M) (x : Option R) → bears says tells m x ≡ true → x ≡ None → ⊥
-  bears_some m None t e = false≢true t
-  bears_some m (Some r) t e = let z : ◌≡◌ {A = ℕ} 0 1 = cc in omega arith
+  bears_some : (m : M) (x : Option R) → bears says tells m x ≡ true → is_some x ≡ true
+  bears_some m None t = absurd (false≢true t)
+  bears_some m (Some r) t = refl
 
   -- the row that is looked up stands at the first position with the key
   pub lookup-leads : (rows : List (Option R)) (m : M) (r : Option ℕ) → Leads (bears says tells m) rows r → lookup says tells rows m ≡ row_found rows r
@@ -29,21 +29,32 @@ module _ {R M : Type 0} (says : R → M) (tells : M → M → Bool) where
   lookup-leads (x ∷ rows) m (Some (suc i)) (l, t, h) =
       cond-false (bears says tells m x) _ _ (h 0 (omega arith)) ∙ lookup-leads rows m (Some i) (omega arith, t, λ k n. h (suc k) (omega arith))
 
-  pub lookup-none : (rows : List (Option R)) (m : M) (r : Option ℕ) → Leads (bears says tells m) rows r → lookup says tells rows m ≡ None → r ≡ None
-  lookup-none rows m None h e = refl
-  lookup-none rows m (Some i) (l, t, h) e = absurd (bears_some m (row_at rows i) t (sym (lookup-leads rows m (Some i) (l, t, h)) ∙ e))
-
   pub lookup-position : (rows : List (Option R)) (m : M) → lookup says tells rows m ≡ row_found rows (position (bears says tells m) rows)
   lookup-position rows m = lookup-leads rows m _ (leads-position (bears says tells m) rows)
 
+  found_leads : (rows : List (Option R)) (m : M) (r : Option ℕ) → Leads (bears says tells m) rows r → is_some (lookup says tells rows m) ≡ is_some r
+  found_leads rows m None h = ap is_some (lookup-leads rows m None h)
+  found_leads rows m (Some i) (l, t, h) = ap is_some (lookup-leads rows m (Some i) (l, t, h)) ∙ bears_some m (row_at rows i) t
+
+  -- a row is found exactly if there is a position for it
+  pub found-position : (rows : List (Option R)) (m : M) → is_some (lookup says tells rows m) ≡ is_some (position (bears says tells m) rows)
+  found-position rows m = found_leads rows m _ (leads-position (bears says tells m) rows)
+
   pub none-position : (rows : List (Option R)) (m : M) → NoneFound says tells m rows (position (bears says tells m) rows)
-  none-position rows m = (lookup-none rows m _ (leads-position (bears says tells m) rows), λ e. lookup-position rows m ∙ ap (row_found rows) e)
+  none-position rows m = (
+    (λ e. none_some _ (sym (found-position rows m) ∙ ap is_some e)),
+    (λ e. lookup-position rows m ∙ ap (row_found rows) e),
+  )
+    where
+      none_some : (r : Option ℕ) → is_some r ≡ false → r ≡ None
+      none_some None e = refl
+      none_some (Some i) e = absurd (false≢true (sym e))
 
   -- no row has a key that is looked up in vain
   pub lookup_below : (rows : List (Option R)) (m : M) → lookup says tells rows m ≡ None → (k : ℕ) → bears says tells m (row_at rows k) ≡ false
   lookup_below rows m e k =
       let test : Option R → Bool = bears says tells m in
-      let p : position test rows ≡ None = lookup-none rows m (position test rows) (leads-position test rows) e in
+      let p : position test rows ≡ None = (none-position rows m).0 e in
       let h : Leads test rows None = subst (Leads test rows) p (leads-position test rows) in
       ⊎_elim (h k) (λ past. ap test (get_or_past rows k None past)) (cases_lt k (length rows))
 

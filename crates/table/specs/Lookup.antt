@@ -1,6 +1,6 @@
 -- A table is a list of rows: `None` is a free row, `Some r` the row r in use.
 -- `says` gives what a row's key stands for, and `tells` whether two such are the same.
-use Rattle.std.specs.Prelude.{◌≡◌, ℕ, ◌≤◌, Bool, true, false, cond, List, [], ◌∷◌, Some, None, Option, is_some, count_by, slice_index_or, slice_set}
+use Rattle.std.specs.Prelude.{◌≡◌, ℕ, ◌≤◌, Bool, false, cond, List, [], ◌∷◌, Some, None, Option, is_some, count_by, slice_index_or, slice_set}
 
 -- what a row's key stands for, by the row's key and what a key stands for
 abbrev pub says : {R K M : Type 0} → (R → K) → (K → M) → R → M

@@ -1,6 +1,8 @@
 -- The plan of the cabinet and the place rows that it is read from.
-use Rattle.std.proofs.Common.{◌≡◌, ℕ, zero, suc, Bool, true, false, cond, ◌&&◌, eqb, List, [], ◌∷◌, set, Some, None, Option, refl, ap, ◌∙◌, is_some, position}
+use Rattle.std.proofs.Common.{◌≡◌, ℕ, zero, suc, ◌+◌, Bool, true, false, cond, not, ◌&&◌, eqb, ltb, List, [], ◌∷◌, set, Some, None, Option, refl, ap, ◌∙◌, is_some, position}
+use Rattle.std.specs.List.{position_or_len}
 use Rattle.std.specs.Option.{option_map}
+use Rattle.std.proofs.lemmas.List.{length-map}
 use Rattle.table.specs.Lookup.{bears, row_at}
 use Rattle.model.specs.Calls.{promised_to}
 use Rattle.model.specs.Places.{code_at, index, listed, sites}
@@ -31,9 +33,12 @@ module _ {N : Type 0} where
 
   -- the position of a code, which is that of its switch
   pub plan-index : (rows : List (Option (Place N))) (p : ℕ) → index (plan rows) p ≡ position (bears (λ r. coded r.code) eqb p) rows
-  plan-index [] p = refl
-  plan-index (None ∷ rows) p = ap later (plan-index rows p)
-  plan-index (Some r ∷ rows) p = ap (λ o. cond (eqb (coded r.code) p) (Some 0) (later o)) (plan-index rows p)
+  plan-index rows p = λ i. cond (ltb (first rows i) (length-map rows (option_map spot_of) i)) (Some (first rows i)) None
+    where
+      first : (rows : List (Option (Place N))) → position_or_len (bears (λ s. s.code) eqb p) (plan rows) ≡ position_or_len (bears (λ r. coded r.code) eqb p) rows
+      first [] = refl
+      first (None ∷ rows) = ap (λ n. 1 + n) (first rows)
+      first (Some r ∷ rows) = ap (λ n. cond (not (eqb (coded r.code) p)) (1 + n) 0) (first rows)
 
   pub plan-code-at : (rows : List (Option (Place N))) (i : ℕ) → code_at (plan rows) i ≡ option_map (λ r. coded r.code) (row_at rows i)
   plan-code-at [] i = refl
