@@ -2,9 +2,11 @@
 use Rattle.std.specs.Prelude.{◌≡◌, ℕ, ◌+◌, Bool, true, false, cond, ◌&&◌, List, [], ◌∷◌, length, Ok, Err, Option, Result, ◌==◌, nat_le}
 use Rattle.texts.specs.Form.{formed, named}
 use Rattle.texts.specs.declared.id.Id.{Id}
+use Rattle.values.specs.declared.report.Occupancy.{Occupancy}
+use Rattle.values.specs.declared.report.Occupancy.TheVariants as occupancy
 use Rattle.values.specs.declared.field.Field.{Field}
 use Rattle.values.specs.declared.field.Field.TheVariants as field
-use Rattle.values.specs.Numbers.{field_number, is_transition, is_transport, is_processing, is_reading}
+use Rattle.values.specs.Numbers.{field_number, occupancy_number, is_transition, is_transport, is_processing, is_reading}
 use Rattle.values.specs.Values.{is_moment, is_code}
 use Rattle.reports.specs.Fields.{Fields, location_row, occupant_id}
 
@@ -75,12 +77,21 @@ abbrev pub told : {X Y : Type 0} → (X → Y) → Result X Field → Result Y R
 told see (Ok x) = Ok (see x)
 told see (Err e) = Err (out_of_bounds (field_number e))
 
--- one field: the value stands for y where the test passes
-abbrev pub Checked : {X Y : Type 0} → (X → Y) → Y → Bool → Field → Result X Field → Type 0
-Checked see y t e (Ok x) = (t ≡ true) × (see x ≡ y)
-Checked see y t e (Err d) = (t ≡ false) × (d ≡ e)
+-- one field: what its conversion gives, and the field in the place of an error
+abbrev pub Converted : {A X E : Type 0} → (A → Result X E → Type 0) → A → Field → Result X Field → Type 0
+Converted gives a f (Ok x) = gives a (Ok x)
+Converted {E = E} gives a f (Err d) = (d ≡ f) × ((e : E) × gives a (Err e))
 
--- an occupant where there is one, and no bytes where not
-abbrev pub Occupies : Bool → List ℕ → Result (Option Id) Field → Type 0
-Occupies o bs (Ok x) = (cond o (named bs) (blank bs) ≡ true) × (location_row x ≡ cond o 1 2) × (occupant_id x ≡ bs)
-Occupies o bs (Err e) = (cond o (named bs) (blank bs) ≡ false) × (e ≡ field.Id)
+-- a test that has to pass, and the field where it fails
+abbrev pub Holds : Bool → Field → Result Unit Field → Type 0
+Holds t f (Ok x) = t ≡ true
+Holds t f (Err d) = (t ≡ false) × (d ≡ f)
+
+-- the ID of an occupant where there is one, and no bytes where not
+abbrev pub occupant_bounds : Occupancy → List ℕ → Bool
+occupant_bounds occupancy.Occupied bs = named bs
+occupant_bounds occupancy.Unoccupied bs = blank bs
+
+abbrev pub Occupies : Occupancy → List ℕ → Result (Option Id) Field → Type 0
+Occupies o bs (Ok x) = (occupant_bounds o bs ≡ true) × (location_row x ≡ occupancy_number o) × (occupant_id x ≡ bs)
+Occupies o bs (Err d) = (occupant_bounds o bs ≡ false) × (d ≡ field.Id)

@@ -1,5 +1,6 @@
 -- A report by its twelve fields, as numbers and byte strings.
 use Rattle.std.specs.Prelude.{ℕ, List, [], Some, None, Option}
+use Rattle.std.specs.Borrow.{Bor}
 use Rattle.texts.specs.Meaning.{spelled, called}
 use Rattle.texts.specs.declared.id.Id.{Id}
 use Rattle.reports.specs.declared.raw.Raw.{Raw}
@@ -24,22 +25,26 @@ pub record Fields : Type 0 where
   pub id : List ℕ
   pub acquired : List ℕ
 
--- the fields as they are given
-abbrev pub given : Raw → Fields
-given r = record {
-  family = r.family;
-  row = r.row;
-  transport = r.transport;
-  processing = r.processing;
-  reading = r.reading;
-  spare = r.spare;
-  time = r.time;
-  place = r.place;
-  source = r.source;
-  destination = r.destination;
-  id = r.id.now;
-  acquired = r.acquired.now;
+-- fields by the bytes that their two texts hold
+abbrev pub raw_fields : {T : Type 0} → (T → List ℕ) → Raw T → Fields
+raw_fields bytes r = record {
+  family = r.numbers.family;
+  row = r.numbers.row;
+  transport = r.numbers.transport;
+  processing = r.numbers.processing;
+  reading = r.numbers.reading;
+  spare = r.numbers.spare;
+  time = r.numbers.time;
+  place = r.numbers.place;
+  source = r.numbers.source;
+  destination = r.numbers.destination;
+  id = bytes r.id;
+  acquired = bytes r.acquired;
 }
+
+-- the fields as they are given
+abbrev pub given : Raw (Bor (List ℕ)) → Fields
+given = raw_fields (λ bs. bs.now)
 
 abbrev pub substrate_fields : Substrate → Fields
 substrate_fields s = record {

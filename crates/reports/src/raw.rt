@@ -1,6 +1,6 @@
-// The twelve fields of a report as numbers and byte strings, whatever they hold.
-#[derive(Clone, Copy)]
-pub struct Raw<'a> {
+// The ten numbers of a report, whatever they are.
+#[derive(Clone, Copy, Debug, PartialEq, Eq)]
+pub struct Numbers {
     pub family: u8,
     pub row: u8,
     pub transport: u8,
@@ -11,6 +11,12 @@ pub struct Raw<'a> {
     pub place: u16,
     pub source: u16,
     pub destination: u16,
-    pub id: &'a [u8],
-    pub acquired: &'a [u8],
+}
+
+// The twelve fields of a report as numbers and byte strings, whatever they hold.
+#[derive(Clone, Copy, Drop)]
+pub struct Raw<T> {
+    pub numbers: Numbers,
+    pub id: T,
+    pub acquired: T,
 }

@@ -1,20 +1,8 @@
 -- A draft by its fields.
-use Rattle.std.specs.Prelude.{vec_items}
-use Rattle.reports.specs.Fields.{Fields}
-use Rattle.script.specs.declared.draft.Draft.{Draft}
+use Rattle.std.specs.Prelude.{ℕ, Vec, vec_items}
+use Rattle.std.specs.Global.{Global}
+use Rattle.reports.specs.Fields.{Fields, raw_fields}
+use Rattle.reports.specs.declared.raw.Raw.{Raw}
 
-abbrev pub drafted : Draft → Fields
-drafted d = record {
-  family = d.family;
-  row = d.row;
-  transport = d.transport;
-  processing = d.processing;
-  reading = d.reading;
-  spare = 0;
-  time = d.time;
-  place = d.place;
-  source = d.source;
-  destination = d.destination;
-  id = vec_items d.id;
-  acquired = vec_items d.acquired;
-}
+abbrev pub drafted : Raw (Vec ℕ Global) → Fields
+drafted = raw_fields vec_items

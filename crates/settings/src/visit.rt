@@ -22,7 +22,7 @@ impl Drop for Visit<'_> {
             position,
             before,
         } = self;
-        settings.put(position, before);
+        let _ = settings.silence(position, before);
     }
 }
 
@@ -37,7 +37,7 @@ impl<'a> Visit<'a> {
         ensures restores { silenced_at position result.before (switches result.settings.now) ≡ switches settings.old }
     {
         let before = settings.is_silenced(position);
-        settings.put(position, true);
+        let _ = settings.silence(position, true);
         Visit {
             settings,
             position,

@@ -4,6 +4,10 @@ ghost use Rattle.texts.specs.Form.{graphic_all, padded};
 pub mod making;
 pub mod printing;
 
+// Bytes that form no text, or no ID.
+#[derive(Clone, Copy, Debug, PartialEq, Eq)]
+pub struct Malformed;
+
 // A text of at most sixteen bytes, each from hex 21 to 7E; the bytes after its end are zero.
 #[derive(Clone, Copy, PartialEq, Eq)]
 pub struct Text {

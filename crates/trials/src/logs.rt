@@ -1,33 +1,33 @@
 use layout::fault::LayoutFault;
 use layout::write::write;
 use packed_log::reading::{LogFault, read_log};
-use reports::raw::Raw;
+use reports::raw::{Numbers, Raw};
 use reports::report::Report;
 use std::alloc::Global;
 use std::test::Fail;
 
-fn registered(time: u64) -> Raw<'static> {
+fn registered(time: u64) -> Raw<&'static [u8]> {
     Raw {
-        family: 0,
-        row: 1,
-        transport: 0,
-        processing: 15,
-        reading: 0,
-        spare: 0,
-        time,
-        place: 101,
-        source: 101,
-        destination: 201,
+        numbers: Numbers {
+            family: 0,
+            row: 1,
+            transport: 0,
+            processing: 15,
+            reading: 0,
+            spare: 0,
+            time,
+            place: 101,
+            source: 101,
+            destination: 201,
+        },
         id: b"A1",
         acquired: b"",
     }
 }
 
-fn bytes_of(raw: Raw) -> Result<[u8; 41], Fail> {
-    match Report::make(&raw) {
-        Ok(report) => Ok(write(&report)),
-        Err(_) => Err(Fail::new("a report within its bounds")),
-    }
+fn bytes_of(raw: Raw<&[u8]>) -> Result<[u8; 41], Fail> {
+    let report = Report::make(&raw).map_err(|_| Fail::new("a report within its bounds"))?;
+    Ok(write(&report))
 }
 
 // Two reports, one after the other.

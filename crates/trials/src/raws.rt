@@ -1,22 +1,7 @@
-use reports::raw::Raw;
+use reports::raw::{Numbers, Raw};
 use reports::report::Report;
 
 const LAST: u64 = 1_099_511_627_775;
-
-// The numbers of a report.
-#[derive(Clone, Copy)]
-struct Numbers {
-    family: u8,
-    row: u8,
-    transport: u8,
-    processing: u8,
-    reading: u8,
-    spare: u8,
-    time: u64,
-    place: u16,
-    source: u16,
-    destination: u16,
-}
 
 const SUBSTRATE: Numbers = Numbers {
     family: 0,
@@ -89,29 +74,17 @@ fn with(base: Numbers, field: u8, value: u64) -> Numbers {
     }
 }
 
-fn raw<'a>(n: Numbers, id: &'a [u8], acquired: &'a [u8]) -> Raw<'a> {
+fn raw<'a>(numbers: Numbers, id: &'a [u8], acquired: &'a [u8]) -> Raw<&'a [u8]> {
     Raw {
-        family: n.family,
-        row: n.row,
-        transport: n.transport,
-        processing: n.processing,
-        reading: n.reading,
-        spare: n.spare,
-        time: n.time,
-        place: n.place,
-        source: n.source,
-        destination: n.destination,
+        numbers,
         id,
         acquired,
     }
 }
 
 // The field that is refused, or 0.
-fn refused(raw: Raw) -> u8 {
-    match Report::make(&raw) {
-        Ok(_) => 0,
-        Err(field) => u8::from(field),
-    }
+fn refused(raw: Raw<&[u8]>) -> u8 {
+    Report::make(&raw).map_or_else(u8::from, |_| 0)
 }
 
 // A field, a number in it, and whether that is refused there: each bound, and one past it.

@@ -1,5 +1,5 @@
 use packed_log::log::PackedLog;
-use reports::raw::Raw;
+use reports::raw::{Numbers, Raw};
 use reports::report::Report;
 use sinks::records::Records;
 use sinks::sink::Sink;
@@ -7,24 +7,23 @@ use std::process::Abort;
 use std::test::Fail;
 
 fn report() -> Result<Report, Fail> {
-    let raw = Raw {
-        family: 1,
-        row: 2,
-        transport: 0,
-        processing: 0,
-        reading: 0,
-        spare: 0,
-        time: 7,
-        place: 5,
-        source: 0,
-        destination: 0,
+    let raw: Raw<&[u8]> = Raw {
+        numbers: Numbers {
+            family: 1,
+            row: 2,
+            transport: 0,
+            processing: 0,
+            reading: 0,
+            spare: 0,
+            time: 7,
+            place: 5,
+            source: 0,
+            destination: 0,
+        },
         id: b"",
         acquired: b"",
     };
-    match Report::make(&raw) {
-        Ok(report) => Ok(report),
-        Err(_) => Err(Fail::new("a report within its bounds")),
-    }
+    Report::make(&raw).map_err(|_| Fail::new("a report within its bounds"))
 }
 
 // Puts into a sink until it is full, for which there has to be room this often.

@@ -3,10 +3,7 @@ use texts::id::Id;
 use texts::text::Text;
 
 fn text(bytes: &[u8]) -> Result<Text, Fail> {
-    match Text::new(bytes) {
-        Some(text) => Ok(text),
-        None => Err(Fail::new("a text")),
-    }
+    Text::new(bytes).ok_or_else(|| Fail::new("a text"))
 }
 
 #[test]

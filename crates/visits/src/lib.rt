@@ -40,10 +40,9 @@ mod tests {
 
     #[test]
     fn each_way_out(rt: HostRuntime) -> Result<(), Fail> {
-        let Ok(settings) = Settings::new(4) else {
+        let Ok(mut settings) = Settings::new(4) else {
             return Err(Fail::new("settings"));
         };
-        let mut settings = settings;
         assert!(rt; settings.silence(2, true).is_ok());
         assert!(rt; settings.silence(4, true).is_err());
         assert!(rt; tended(&mut settings, 1, 4).is_err());

@@ -9,7 +9,7 @@ use layout::write::write;
 use packed_log::reading::read_log;
 use reports::report::Report;
 use script::command::Command;
-use script::draft::Draft;
+use script::draft::{Draft, raw};
 use script::mistake::Mistake;
 use std::alloc::{AllocError, Global};
 
@@ -17,7 +17,7 @@ use std::alloc::{AllocError, Global};
 fn pack(draft: &Draft) -> Outcome
     ensures { came result ≡ answer_to (packing (drafted draft.now)) }
 {
-    match Report::make(&draft.raw()) {
+    match Report::make(&raw(draft)) {
         Ok(report) => Outcome::Packed(write(&report)),
         Err(field) => Outcome::Refused(field),
     }

@@ -7,8 +7,10 @@ use crate::command::Command;
 use crate::draft::Draft;
 use crate::mistake::{Form, Mistake};
 use crate::parts::{at, byte, bytes, code, count, is, number, text};
+use reports::raw::{Numbers, Raw};
 use std::alloc::Global;
 use values::field::Field;
+use values::report::Family;
 
 // A substrate report by its ten words.
 fn substrate<'a>(heap: Global, words: &[&'a [u8]]) -> Result<Draft, Mistake<'a>>
@@ -28,16 +30,19 @@ fn substrate<'a>(heap: Global, words: &[&'a [u8]]) -> Result<Draft, Mistake<'a>>
     let processing = byte(Field::Processing, at(words, 7))?;
     let reading = byte(Field::Reading, at(words, 8))?;
     let acquired = text(heap, Field::Acquired, at(words, 9))?;
-    Ok(Draft {
-        family: 0,
-        row,
-        transport,
-        processing,
-        reading,
-        time,
-        place,
-        source,
-        destination,
+    Ok(Raw {
+        numbers: Numbers {
+            family: u8::from(Family::Substrate),
+            row,
+            transport,
+            processing,
+            reading,
+            spare: 0,
+            time,
+            place,
+            source,
+            destination,
+        },
         id,
         acquired,
     })
@@ -70,16 +75,19 @@ fn location<'a>(heap: Global, words: &[&'a [u8]]) -> Result<Draft, Mistake<'a>>
     let time = number(Field::Time, at(words, 1))?;
     let place = code(Field::Place, at(words, 2))?;
     let id = optional(heap, Field::Id, words, 3)?;
-    Ok(Draft {
-        family: 1,
-        row,
-        transport: 0,
-        processing: 0,
-        reading: 0,
-        time,
-        place,
-        source: 0,
-        destination: 0,
+    Ok(Raw {
+        numbers: Numbers {
+            family: u8::from(Family::Location),
+            row,
+            transport: 0,
+            processing: 0,
+            reading: 0,
+            spare: 0,
+            time,
+            place,
+            source: 0,
+            destination: 0,
+        },
         id,
         acquired: Vec::new(heap),
     })

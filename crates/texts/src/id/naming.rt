@@ -1,10 +1,11 @@
 ghost use Rattle.std.specs.Prelude.{◌≡◌, Some};
 ghost use Rattle.std.specs.Option.{option_map};
+ghost use Rattle.std.specs.Result.{result_ok};
 ghost use Rattle.texts.specs.Form.{id_of};
 ghost use Rattle.texts.specs.Meaning.{called};
 
 use crate::id::Id;
-use crate::text::Text;
+use crate::text::{Malformed, Text};
 use std::fmt;
 
 impl Id {
@@ -23,6 +24,16 @@ impl Id {
         ensures { result ≡ self.now.text }
     {
         self.text
+    }
+}
+
+impl TryFrom<&[u8]> for Id {
+    type Error = Malformed;
+
+    ghost try_from_gives = { λ bs r. option_map called (result_ok r) ≡ id_of bs.now };
+
+    fn try_from(given: &[u8]) -> Result<Id, Malformed> {
+        Id::new(given).ok_or(Malformed)
     }
 }
 

@@ -1,12 +1,13 @@
 ghost use Rattle.std.specs.Prelude.{◌≡◌, ℕ, List, [], length, ◌==◌};
 ghost use Rattle.std.specs.Option.{option_map};
+ghost use Rattle.std.specs.Result.{result_ok};
 ghost use Rattle.std.specs.Str.{bytes_eq};
 ghost use Rattle.texts.specs.Form.{text_of, padded};
 ghost use Rattle.texts.specs.Meaning.{spelled};
 ghost use Rattle.std.proofs.lemmas.Slice.Eq.{bytes_eq-Decides};
 ghost use Rattle.texts.specs.Equal.{same_spelled};
 
-use crate::text::Text;
+use crate::text::{Malformed, Text};
 use table::key::Key;
 
 impl Text {
@@ -59,6 +60,16 @@ impl Text {
         ensures { result ≡ padded (spelled self.now) }
     {
         self.bytes
+    }
+}
+
+impl TryFrom<&[u8]> for Text {
+    type Error = Malformed;
+
+    ghost try_from_gives = { λ bs r. option_map spelled (result_ok r) ≡ text_of bs.now };
+
+    fn try_from(given: &[u8]) -> Result<Text, Malformed> {
+        Text::new(given).ok_or(Malformed)
     }
 }
 
