@@ -9,7 +9,6 @@ ghost use Rattle.values.specs.Numbers.{processing_number, reading_number, transi
 
 use crate::standing::Standing;
 use crate::states::is_steady;
-use table::key::Key;
 use texts::text::Text;
 use values::states::{Processing, Reading, Transport};
 use values::transition::Transition;
@@ -151,5 +150,5 @@ fn is_unread(wafer: &Wafer) -> bool
 pub fn reads_as(acquired: &Text, wafer: &Wafer) -> bool
     ensures { result ≡ reads_as (spelled acquired.now) (called wafer.now.id) }
 {
-    acquired.same(&wafer.id.text())
+    *acquired == wafer.id.text()
 }
