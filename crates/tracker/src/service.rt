@@ -22,7 +22,7 @@ use values::states::Processing;
 use wafers::wafer::Wafer;
 
 // A call on a registered wafer.
-#[derive(Clone, Copy)]
+#[derive(Clone, Copy, PartialEq, Eq)]
 pub enum Service<'a> {
     Start,
     End(u8),

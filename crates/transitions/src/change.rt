@@ -15,7 +15,7 @@ use values::transition::Transition;
 use wafers::wafer::Wafer;
 
 // The rows that change states alone, with what each is given.
-#[derive(Clone, Copy)]
+#[derive(Clone, Copy, PartialEq, Eq)]
 pub enum Change {
     Correct,
     Need(Reading),
