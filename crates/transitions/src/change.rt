@@ -7,7 +7,6 @@ ghost use Rattle.transitions.specs.Meant.{change_meant};
 ghost use Rattle.values.specs.Numbers.{processing_number, reading_number, transition_number};
 
 use crate::states::is_steady;
-use table::key::Key;
 use texts::text::Text;
 use values::states::{Processing, Reading, Transport};
 use values::transition::Transition;
@@ -148,5 +147,5 @@ fn is_unread(wafer: &Wafer) -> bool
 pub fn reads_as(acquired: &Text, wafer: &Wafer) -> bool
     ensures { result ≡ reads_as (spelled acquired.now) (called wafer.now.id) }
 {
-    acquired.same(&wafer.id.text())
+    *acquired == wafer.id.text()
 }
