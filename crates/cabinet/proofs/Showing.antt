@@ -1,13 +1,14 @@
 -- What the tables show after one of their rows has changed.
-use Rattle.std.proofs.Common.{◌≡◌, ℕ, suc, pred, ◌+◌, ◌≤◌, Bool, true, false, cond, not, ◌&&◌, eqb, ltb, List, [], ◌∷◌, length, is_some, Some, None, Option, sym, refl, ap, ◌∙◌, arith, length-set}
+use Rattle.std.proofs.Common.{◌≡◌, ℕ, suc, pred, ◌+◌, ◌≤◌, Bool, true, false, cond, not, ◌&&◌, eqb, ltb, List, [], ◌∷◌, length, is_some, Some, None, Option, sym, refl, ap, ◌∙◌, arith, length-set, is_none, position}
 use Rattle.std.specs.Option.{option_map, option_flatten}
 use Rattle.std.specs.Str.{bytes_eq}
 use Rattle.std.proofs.lemmas.Bool.{false≢true, cond-true, cond-false, and_left, and_right, and_from, lt-ltb, le-ltb, not_from_true, eqb-true}
-use Rattle.table.specs.Lookup.{bears, in_use, later, lookup, occupied, placed, position, row_at, row_found, vacant}
+use Rattle.std.proofs.lemmas.List.Sums.{count_by-le-length}
+use Rattle.table.specs.Lookup.{bears, in_use, placed, row_at, row_found}
 use Rattle.table.specs.Laws.{OneMore, OneLess, Others}
-use Rattle.table.proofs.Places.{leads-position, count_most, length-placed}
-use Rattle.table.proofs.Frees.{full_leads}
-use Rattle.table.proofs.Keys.{lookup-leads}
+use Rattle.table.proofs.Places.{length-placed}
+use Rattle.table.proofs.Frees.{full-position}
+use Rattle.table.proofs.Keys.{found-position, lookup-position}
 use Rattle.model.specs.Wafers.{Text, Wafer as Kept}
 use Rattle.model.specs.Places.{Plan, sites, listed, put_text, put_code}
 use Rattle.texts.specs.Meaning.{called}
@@ -21,42 +22,16 @@ use Rattle.wafers.proofs.Views.{text_put, code_put, code-kept}
 use Rattle.wafers.proofs.Plans.{plan-set, plan-listed}
 use Rattle.cabinet.specs.Views.{View, notes_of, view_of, stored, inserted, removed, occupied_by, noted}
 
--- a row is found exactly if there is a position for it
-found_at : {R M : Type 0} (says : R → M) (tells : M → M → Bool) (rows : List (Option R)) (m : M) → occupied (lookup says tells rows m) ≡ is_some (position (bears says tells m) rows)
-found_at says tells [] m = refl
-found_at says tells (None ∷ rows) m = found_at says tells rows m ∙ once_later (position (bears says tells m) rows)
-  where
-    once_later : (o : Option ℕ) → is_some o ≡ is_some (later o)
-    once_later None = refl
-    once_later (Some i) = refl
-found_at says tells (Some r ∷ rows) m = go (tells (says r) m) (found_at says tells rows m)
-  where
-    once_later : (o : Option ℕ) → is_some o ≡ is_some (later o)
-    once_later None = refl
-    once_later (Some i) = refl
-
-    go : (b : Bool) → occupied (lookup says tells rows m) ≡ is_some (position (bears says tells m) rows) → occupied (cond b (Some r) (lookup says tells rows m)) ≡ is_some (cond b (Some 0) (later (position (bears says tells m) rows)))
-    go true e = refl
-    go false e = e ∙ once_later (position (bears says tells m) rows)
-
-pub occupied_mapped : {X Y : Type 0} (f : X → Y) (o : Option X) → occupied (option_map f o) ≡ occupied o
+pub occupied_mapped : {X Y : Type 0} (f : X → Y) (o : Option X) → is_some (option_map f o) ≡ is_some o
 occupied_mapped f None = refl
 occupied_mapped f (Some x) = refl
-
-pub vacant_mapped : {X Y : Type 0} (f : X → Y) (o : Option X) → vacant (option_map f o) ≡ vacant o
-vacant_mapped f None = refl
-vacant_mapped f (Some x) = refl
-
-vacant_not : {X : Type 0} (o : Option X) → vacant o ≡ not (occupied o)
-vacant_not None = refl
-vacant_not (Some x) = refl
 
 abbrev id_of : Wafer → Text
 id_of w = called w.id
 
 -- whether a wafer is registered, by the position found for it
-pub registered-at : (rows : List (Option Wafer)) (k : Text) → occupied (wafers_of rows k) ≡ is_some (position (bears id_of bytes_eq k) rows)
-registered-at rows k = occupied_mapped held (wafer_row rows k) ∙ found_at id_of bytes_eq rows k
+pub registered-at : (rows : List (Option Wafer)) (k : Text) → is_some (wafers_of rows k) ≡ is_some (position (bears id_of bytes_eq k) rows)
+registered-at rows k = occupied_mapped held (wafer_row rows k) ∙ found-position id_of bytes_eq rows k
 
 module _ {N : Type 0} where
   abbrev with_wafers : (Text → Option Kept) → ℕ → ℕ → List (Option (Place N)) → View N
@@ -70,48 +45,48 @@ module _ {N : Type 0} where
       → (is_some r ≡ true → wafer_row wafers' (id_of w) ≡ Some w) → Others id_of bytes_eq (id_of w) wafers wafers'
       → view_of wafers' places ≡ stored (id_of w) (held w) (view_of wafers places)
   stored_shows wafers wafers' places w None p e u own others =
-      ap (λ ws. view_of ws places) e ∙ sym (cond-false (occupied (wafers_of wafers (id_of w))) _ _ (registered-at wafers (id_of w) ∙ ap is_some (sym p)))
+      ap (λ ws. view_of ws places) e ∙ sym (cond-false (is_some (wafers_of wafers (id_of w))) _ _ (registered-at wafers (id_of w) ∙ ap is_some (sym p)))
   stored_shows wafers wafers' places w (Some i) p e u own others =
       wafers_path (wafers_of wafers') (put_text (id_of w) (Some (held w)) (wafers_of wafers)) _ _ _ _ places
       (text_put (option_map held) (wafer_row wafers') (wafer_row wafers) (id_of w) others (Some w) (own refl)) u (ap length e ∙ length-set wafers i (Some w))
-      ∙ sym (cond-true (occupied (wafers_of wafers (id_of w))) _ _ (registered-at wafers (id_of w) ∙ ap is_some (sym p)))
+      ∙ sym (cond-true (is_some (wafers_of wafers (id_of w))) _ _ (registered-at wafers (id_of w) ∙ ap is_some (sym p)))
 
   -- a wafer that is registered is not inserted
   pub known_shows : (wafers : List (Option Wafer)) (places : List (Option (Place N))) (id : Text) (w : Kept) → is_some (position (bears id_of bytes_eq id) wafers) ≡ true → view_of wafers places ≡ inserted id w (view_of wafers places)
   known_shows wafers places id w h =
-      sym (cond-false (vacant (wafers_of wafers id) && ltb (in_use wafers) (length wafers)) _ _
-      (and_left _ _ (vacant_not (wafers_of wafers id) ∙ not_from_true _ (registered-at wafers id ∙ h))))
+      sym (cond-false (is_none (wafers_of wafers id) && ltb (in_use wafers) (length wafers)) _ _
+      (and_left _ _ (not_from_true _ (registered-at wafers id ∙ h))))
 
   pub inserted_shows : (wafers wafers' : List (Option Wafer)) (places : List (Option (Place N))) (w : Wafer) (r : Option ℕ)
       → is_some (position (bears id_of bytes_eq (id_of w)) wafers) ≡ false
-      → r ≡ position vacant wafers → wafers' ≡ placed wafers (Some w) r → OneMore wafers wafers' r
+      → r ≡ position is_none wafers → wafers' ≡ placed wafers (Some w) r → OneMore wafers wafers' r
       → (is_some r ≡ true → wafer_row wafers (id_of w) ≡ None → wafer_row wafers' (id_of w) ≡ Some w) → Others id_of bytes_eq (id_of w) wafers wafers'
       → view_of wafers' places ≡ inserted (id_of w) (held w) (view_of wafers places)
   inserted_shows wafers wafers' places w r n p e u own others = go r p e u own
     where
-      absent : occupied (wafer_row wafers (id_of w)) ≡ false
-      absent = found_at id_of bytes_eq wafers (id_of w) ∙ n
+      absent : is_some (wafer_row wafers (id_of w)) ≡ false
+      absent = found-position id_of bytes_eq wafers (id_of w) ∙ n
 
-      unknown : vacant (wafers_of wafers (id_of w)) ≡ true
-      unknown = vacant_mapped held (wafer_row wafers (id_of w)) ∙ vacant_not (wafer_row wafers (id_of w)) ∙ ap not absent
+      unknown : is_none (wafers_of wafers (id_of w)) ≡ true
+      unknown = ap not (occupied_mapped held (wafer_row wafers (id_of w)) ∙ absent)
 
-      none : (o : Option Wafer) → occupied o ≡ false → o ≡ None
+      none : (o : Option Wafer) → is_some o ≡ false → o ≡ None
       none None x = refl
       none (Some v) x = absurd (false≢true (sym x))
 
-      go : (r : Option ℕ) → r ≡ position vacant wafers → wafers' ≡ placed wafers (Some w) r → OneMore wafers wafers' r
+      go : (r : Option ℕ) → r ≡ position is_none wafers → wafers' ≡ placed wafers (Some w) r → OneMore wafers wafers' r
           → (is_some r ≡ true → wafer_row wafers (id_of w) ≡ None → wafer_row wafers' (id_of w) ≡ Some w)
           → view_of wafers' places ≡ inserted (id_of w) (held w) (view_of wafers places)
       go None p e u own =
-          let full : in_use wafers ≡ length wafers = (full_leads wafers (position vacant wafers) (leads-position vacant wafers)).0 (sym p) in
+          let full : in_use wafers ≡ length wafers = (full-position wafers).0 (sym p) in
           ap (λ ws. view_of ws places) e
-          ∙ sym (cond-false (vacant (wafers_of wafers (id_of w)) && ltb (in_use wafers) (length wafers)) _ _ (and_right (vacant (wafers_of wafers (id_of w))) (ltb (in_use wafers) (length wafers)) (le-ltb (in_use wafers) (length wafers) (omega arith))))
+          ∙ sym (cond-false (is_none (wafers_of wafers (id_of w)) && ltb (in_use wafers) (length wafers)) _ _ (and_right (is_none (wafers_of wafers (id_of w))) (ltb (in_use wafers) (length wafers)) (le-ltb (in_use wafers) (length wafers) (omega arith))))
       go (Some i) p e u own =
-          let most : in_use wafers ≤ length wafers = count_most occupied wafers in
-          let open_row : in_use wafers ≡ length wafers → ⊥ = λ x. absurd (some_not_none i (p ∙ (full_leads wafers (position vacant wafers) (leads-position vacant wafers)).1 x)) in
+          let most : in_use wafers ≤ length wafers = count_by-le-length is_some wafers in
+          let open_row : in_use wafers ≡ length wafers → ⊥ = λ x. absurd (some_not_none i (p ∙ (full-position wafers).1 x)) in
           wafers_path (wafers_of wafers') (put_text (id_of w) (Some (held w)) (wafers_of wafers)) (in_use wafers') (suc (in_use wafers)) _ _ places
           (text_put (option_map held) (wafer_row wafers') (wafer_row wafers) (id_of w) others (Some w) (own refl (none (wafer_row wafers (id_of w)) absent))) (u ∙ omega arith) (ap length e ∙ length-set wafers i (Some w))
-          ∙ sym (cond-true (vacant (wafers_of wafers (id_of w)) && ltb (in_use wafers) (length wafers)) _ _ (and_from _ _ unknown (lt-ltb (in_use wafers) (length wafers) (omega (arith, most, open_row)))))
+          ∙ sym (cond-true (is_none (wafers_of wafers (id_of w)) && ltb (in_use wafers) (length wafers)) _ _ (and_from _ _ unknown (lt-ltb (in_use wafers) (length wafers) (omega (arith, most, open_row)))))
         where
           some_not_none : (i : ℕ) → Some i ≡ None → ⊥
           some_not_none i x = let z : ◌≡◌ {A = ℕ} 0 1 = cc in omega arith
@@ -120,11 +95,11 @@ module _ {N : Type 0} where
       → r ≡ wafer_row wafers k → wafers' ≡ placed wafers None at → OneLess wafers wafers' r → wafer_row wafers' k ≡ None → Others id_of bytes_eq k wafers wafers'
       → view_of wafers' places ≡ removed k (view_of wafers places)
   removed_shows wafers wafers' places k None at p e u own others =
-      ap (λ ws. view_of ws places) u ∙ sym (cond-false (occupied (wafers_of wafers k)) _ _ (occupied_mapped held (wafer_row wafers k) ∙ ap occupied (sym p)))
+      ap (λ ws. view_of ws places) u ∙ sym (cond-false (is_some (wafers_of wafers k)) _ _ (occupied_mapped held (wafer_row wafers k) ∙ ap is_some (sym p)))
   removed_shows wafers wafers' places k (Some w) at p e u own others =
       wafers_path (wafers_of wafers') (put_text k None (wafers_of wafers)) (in_use wafers') (pred (in_use wafers)) _ _ places
       (text_put (option_map held) (wafer_row wafers') (wafer_row wafers) k others None own) (less (in_use wafers') (in_use wafers) u) (ap length e ∙ length-placed wafers None at)
-      ∙ sym (cond-true (occupied (wafers_of wafers k)) _ _ (occupied_mapped held (wafer_row wafers k) ∙ ap occupied (sym p)))
+      ∙ sym (cond-true (is_some (wafers_of wafers k)) _ _ (occupied_mapped held (wafer_row wafers k) ∙ ap is_some (sym p)))
     where
       less : (a b : ℕ) → a + 1 ≡ b → a ≡ pred b
       less a b x = omega arith
@@ -136,16 +111,16 @@ module _ {N : Type 0} where
 
   -- no place has the code
   pub unlisted : (places : List (Option (Place N))) (p : ℕ) → place_row places p ≡ None → listed (sites (plan places)) p ≡ false
-  unlisted places p e = plan-listed places p ∙ ap occupied e
+  unlisted places p e = plan-listed places p ∙ ap is_some e
 
   pub is_listed : (places : List (Option (Place N))) (p : ℕ) (q : Place N) → place_row places p ≡ Some q → listed (sites (plan places)) p ≡ true
-  is_listed places p q e = plan-listed places p ∙ ap occupied e
+  is_listed places p q e = plan-listed places p ∙ ap is_some e
 
   -- another row in the place of one with the same code and kind
   plan-kept : (places places' : List (Option (Place N))) (p : ℕ) (old new : Place N) (r : Option ℕ) → r ≡ position (bears code_of eqb p) places → place_row places p ≡ Some old → places' ≡ placed places (Some new) r → spot_of new ≡ spot_of old → plan places' ≡ plan places
   plan-kept places places' p old new None a b e s = ap plan e
   plan-kept places places' p old new (Some i) a b e s =
-      let at_i : row_at places i ≡ Some old = ap (row_found places) a ∙ sym (lookup-leads code_of eqb places p (position (bears code_of eqb p) places) (leads-position (bears code_of eqb p) places)) ∙ b in
+      let at_i : row_at places i ≡ Some old = ap (row_found places) a ∙ sym (lookup-position code_of eqb places p) ∙ b in
       ap plan e ∙ plan-set places i (Some new) (ap Some s ∙ ap (option_map spot_of) (sym at_i))
 
   abbrev with_places : List (Option Wafer) → (ℕ → Option Text) → Plan → (ℕ → Option N) → View N
@@ -199,4 +174,4 @@ module _ {N : Type 0} where
 
   -- a row that is found has a position
   pub there : (places : List (Option (Place N))) (p : ℕ) (old : Place N) (r : Option ℕ) → place_row places p ≡ Some old → r ≡ position (bears code_of eqb p) places → is_some r ≡ true
-  there places p old r e a = ap is_some a ∙ sym (found_at code_of eqb places p) ∙ ap occupied e
+  there places p old r e a = ap is_some a ∙ sym (found-position code_of eqb places p) ∙ ap is_some e

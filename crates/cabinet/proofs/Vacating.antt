@@ -1,9 +1,8 @@
 -- A place that loses its occupant.
-use Rattle.std.proofs.Common.{◌≡◌, ℕ, Bool, true, false, cond, eqb, List, Some, None, Option, sym, refl, ap, ◌∙◌}
+use Rattle.std.proofs.Common.{◌≡◌, ℕ, Bool, true, false, cond, eqb, List, Some, None, Option, sym, refl, ap, ◌∙◌, is_some}
 use mathlib.Core.Path.{fun_ext}
 use Rattle.std.specs.Option.{option_map, option_flatten}
 use Rattle.std.proofs.lemmas.Bool.{false≢true, eqb-true}
-use Rattle.table.specs.Lookup.{occupied}
 use Rattle.model.specs.Wafers.{Text}
 use Rattle.model.specs.Places.{sites, listed, put_code}
 use Rattle.wafers.specs.declared.wafer.Wafer.{Wafer}
@@ -25,7 +24,7 @@ module _ {N : Type 0} where
   pub none_there : (places : List (Option (Place N))) (p : ℕ) → listed (sites (plan places)) p ≡ false → occupants_of places p ≡ None
   none_there places p h = go (place_row places p) (sym (plan-listed places p) ∙ h)
     where
-      go : (o : Option (Place N)) → occupied o ≡ false → option_flatten (option_map occupant_of o) ≡ None
+      go : (o : Option (Place N)) → is_some o ≡ false → option_flatten (option_map occupant_of o) ≡ None
       go None e = refl
       go (Some q) e = absurd (false≢true (sym e))
 

@@ -1,7 +1,6 @@
 -- What the tables of one party show, and what each change makes of it.
-use Rattle.std.specs.Prelude.{ℕ, suc, pred, cond, ◌&&◌, List, length, Some, None, Option, nat_lt}
+use Rattle.std.specs.Prelude.{ℕ, suc, pred, cond, ◌&&◌, List, length, Some, None, Option, nat_lt, is_some, is_none}
 use Rattle.std.specs.Option.{option_map}
-use Rattle.table.specs.Lookup.{occupied, vacant}
 use Rattle.model.specs.Wafers.{Text, Wafer as Kept}
 use Rattle.model.specs.Places.{Plan, sites, listed, Contents, put_text, put_code}
 use Rattle.wafers.specs.declared.wafer.Wafer.{Wafer}
@@ -31,17 +30,17 @@ with_contents c v = record { contents = c; plan = v.plan; notes = v.notes; rows 
 
 -- the wafer's row holds this, if it is registered
 abbrev pub stored : {N : Type 0} → Text → Kept → View N → View N
-stored id w v = cond (occupied (v.contents.wafer id)) (with_contents (record { wafer = put_text id (Some w) v.contents.wafer; used = v.contents.used; occupant = v.contents.occupant }) v) v
+stored id w v = cond (is_some (v.contents.wafer id)) (with_contents (record { wafer = put_text id (Some w) v.contents.wafer; used = v.contents.used; occupant = v.contents.occupant }) v) v
 
 -- the wafer gets a row, if it is not registered and a row is free
 abbrev pub inserted : {N : Type 0} → Text → Kept → View N → View N
 inserted id w v =
-    cond (vacant (v.contents.wafer id) && nat_lt v.contents.used v.rows)
+    cond (is_none (v.contents.wafer id) && nat_lt v.contents.used v.rows)
     (with_contents (record { wafer = put_text id (Some w) v.contents.wafer; used = suc v.contents.used; occupant = v.contents.occupant }) v) v
 
 -- the wafer's row is free, if it is registered
 abbrev pub removed : {N : Type 0} → Text → View N → View N
-removed id v = cond (occupied (v.contents.wafer id)) (with_contents (record { wafer = put_text id None v.contents.wafer; used = pred v.contents.used; occupant = v.contents.occupant }) v) v
+removed id v = cond (is_some (v.contents.wafer id)) (with_contents (record { wafer = put_text id None v.contents.wafer; used = pred v.contents.used; occupant = v.contents.occupant }) v) v
 
 -- the place has this occupant, if it is listed
 abbrev pub occupied_by : {N : Type 0} → ℕ → Option Text → View N → View N

@@ -1,9 +1,8 @@
 -- What an accepted call brings: rows that can be taken, room for them at the mirror, and promises that still stand.
-use Rattle.std.proofs.Common.{◌≡◌, ℕ, pred, ◌<◌, ◌≤◌, Bool, true, false, cond, not, ◌&&◌, eqb, leb, List, [], ◌∷◌, ◌++◌, length, Some, None, Option, sym, refl, ap, ◌∙◌, subst, subst₂, le_refl, arith}
+use Rattle.std.proofs.Common.{◌≡◌, ℕ, pred, ◌<◌, ◌≤◌, Bool, true, false, cond, not, ◌&&◌, eqb, leb, List, [], ◌∷◌, ◌++◌, length, Some, None, Option, sym, refl, ap, ◌∙◌, subst, subst₂, le_refl, arith, is_none, is_some}
 use Rattle.std.specs.Str.{bytes_eq}
 use Rattle.std.proofs.lemmas.Bool.{false≢true, both_ways, not-true, and_parts, and_from, eqb-true, leb-true, ltb-true, lt-ltb}
 use Rattle.std.proofs.lemmas.Bool.Decides.{nat_tests as testing}
-use Rattle.table.specs.Lookup.{vacant, occupied}
 use Rattle.model.specs.Wafers.{Text, Times, at_time, Wafer}
 use Rattle.model.specs.Places.{Plan, Sites, sites, listed, Contents, put_code}
 use Rattle.model.specs.Switches.{Switches}
@@ -177,7 +176,7 @@ kept_more ps c f id q k l r ng = record {
 
 -- a wafer that is not registered has no promise
 ready_known : (at : Sites) (c : Contents) (i id : Text) (q : ℕ) → Ready at c i q → c.wafer id ≡ None → bytes_eq i id ≡ false
-ready_known at c i id q r e = same_false i id (λ x. both_ways _ (ap (λ (o : Option Wafer). occupied (fitting at o q)) (ap c.wafer x ∙ e)) r.goes)
+ready_known at c i id q r e = same_false i id (λ x. both_ways _ (ap (λ (o : Option Wafer). is_some (fitting at o q)) (ap c.wafer x ∙ e)) r.goes)
 
 pub record Accepted (ps : Plan) (m : ℕ) (h : Switches) (t : Tracker) (k : Call) : Type 0 where
   pub cans : can_all (sites ps) (times_of t k) t.contents (steps_of (sites ps) h t k) ≡ true
@@ -217,7 +216,7 @@ register_ok id p d x ps n m h t nm s k c =
       kept = kept-with at t.contents _ t.promise (λ q i a y. ready_other at id i (at_time x) q (registering h id p d) t.contents (ready_known at t.contents i id q y e) (and_from _ _ (and_from _ _ (same_refl id) (apart q i a c8.1)) (and_from _ _ (own id) refl)) y) k;
     }
   where
-    apart : (q : ℕ) (i : Text) → t.promise q ≡ to i → vacant (t.promise p) ≡ true → not (eqb q p) ≡ true
+    apart : (q : ℕ) (i : Text) → t.promise q ≡ to i → is_none (t.promise p) ≡ true → not (eqb q p) ≡ true
     apart q i a v = go (eqb q p) refl
       where
         go : (b : Bool) → eqb q p ≡ b → not b ≡ true
@@ -239,9 +238,9 @@ lift_ok id q x ps n m h t nm s k c =
     }
 
 -- the wafer that is there is at a listed place
-at_listed : (at : Sites) (o : Option Wafer) → occupied o ≡ true → Each (Housed at) o → listed at (place_of o) ≡ true
+at_listed : (at : Sites) (o : Option Wafer) → is_some o ≡ true → Each (Housed at) o → listed at (place_of o) ≡ true
 at_listed at None e h = absurd (false≢true e)
-at_listed at (Some w) e h = ap occupied h.listed_place.1
+at_listed at (Some w) e h = ap is_some h.listed_place.1
 
 promised : (o : Option Promise) (id : Text) → promised_to o id ≡ true → o ≡ to id
 promised None id e = absurd (false≢true e)
@@ -272,7 +271,7 @@ set_down_ok g x ps n m h t nm s k c =
     from : ℕ
     from = place_of (t.contents.wafer id)
 
-    wafer_there : (at : Sites) (o : Option Wafer) → occupied (fitting at o q) ≡ true → occupied o ≡ true
+    wafer_there : (at : Sites) (o : Option Wafer) → is_some (fitting at o q) ≡ true → is_some o ≡ true
     wafer_there at None e = e
     wafer_there at (Some w) e = refl
 

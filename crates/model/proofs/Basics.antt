@@ -1,9 +1,8 @@
 -- Texts that are the same, places that are there, tests that come apart.
-use Rattle.std.proofs.Common.{◌≡◌, ℕ, Bool, true, false, ◌⊎◌, Some, None, Option, refl, ap, inl, inr, arith}
+use Rattle.std.proofs.Common.{◌≡◌, ℕ, Bool, true, false, ◌⊎◌, Some, None, Option, refl, ap, inl, inr, arith, is_some, is_none}
 use Rattle.std.specs.Str.{bytes_eq}
 use Rattle.std.proofs.lemmas.Slice.Eq.{bytes_eq-Decides}
 use Rattle.std.proofs.lemmas.Bool.{false≢true, both_ways}
-use Rattle.table.specs.Lookup.{occupied, vacant}
 use Rattle.model.specs.Wafers.{Text}
 
 pub same_true : (a b : Text) → bytes_eq a b ≡ true → a ≡ b
@@ -32,13 +31,13 @@ some_none B a e = let z : ◌≡◌ {A = ℕ} 0 1 = cc in absurd (let y : ⊥ = 
 pub some_same : {A : Type 0} (a b : A) → Some a ≡ Some b → a ≡ b
 some_same a b e = cc
 
-pub vacant-none : {A : Type 0} (o : Option A) → vacant o ≡ true → o ≡ None
+pub vacant-none : {A : Type 0} (o : Option A) → is_none o ≡ true → o ≡ None
 vacant-none None e = refl
 vacant-none (Some a) e = absurd (false≢true e)
 
-pub none-vacant : {A : Type 0} (o : Option A) → o ≡ None → vacant o ≡ true
-none-vacant o e = ap vacant e
+pub none-vacant : {A : Type 0} (o : Option A) → o ≡ None → is_none o ≡ true
+none-vacant o e = ap is_none e
 
-pub occupied_some : {A : Type 0} (o : Option A) → occupied o ≡ true → (a : A) × (o ≡ Some a)
+pub occupied_some : {A : Type 0} (o : Option A) → is_some o ≡ true → (a : A) × (o ≡ Some a)
 occupied_some None e = absurd (false≢true e)
 occupied_some (Some a) e = (a, refl)

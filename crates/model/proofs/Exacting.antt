@@ -1,9 +1,8 @@
 -- Refusal 10 is given exactly if every check before it passes and no row fits.
-use Rattle.std.proofs.Common.{◌≡◌, ℕ, ◌<◌, ◌≤◌, Bool, true, false, cond, not, ◌&&◌, ◌||◌, eqb, ltb, leb, ◌⊎◌, List, [], ◌∷◌, ◌++◌, length, Some, None, Option, sym, refl, ap, ◌∙◌, subst, subst₂, inl, inr, ⊎_elim, arith}
+use Rattle.std.proofs.Common.{◌≡◌, ℕ, ◌<◌, ◌≤◌, Bool, true, false, cond, not, ◌&&◌, ◌||◌, eqb, ltb, leb, ◌⊎◌, List, [], ◌∷◌, ◌++◌, length, Some, None, Option, sym, refl, ap, ◌∙◌, subst, subst₂, inl, inr, ⊎_elim, arith, is_some}
 use Rattle.std.proofs.lemmas.Bool.{false≢true, both_ways, not-true, and_parts, and_from, and_cases, and_left, and_right, eqb-true, eqb-false, eq-eqb, ne_eqb, cond-true, cond-false}
 use Rattle.std.proofs.lemmas.Bool.Decides.{nat_tests as testing}
 use Rattle.reports.specs.Bounds.{blank}
-use Rattle.table.specs.Lookup.{occupied}
 use Rattle.texts.specs.Form.{named}
 use Rattle.model.specs.Wafers.{Text, at_time, Wafer}
 use Rattle.model.specs.Places.{Plan, Sites, sites, listed, Contents}
@@ -332,15 +331,15 @@ ten_serve at c id x s (inr n) = go (can_all at (at_time x) c (served s id (c.waf
     go true e = absurd (n (serve-fits at c id x s e))
     go false e = and_right (well_ended s) false refl
 
-lift_ten : (at : Sites) (q : ℕ) (o : Option Wafer) → occupied o ≡ true → occupied (fitting at o q) ≡ false → Stuck at q o
+lift_ten : (at : Sites) (q : ℕ) (o : Option Wafer) → is_some o ≡ true → is_some (fitting at o q) ≡ false → Stuck at q o
 lift_ten at q None e h = false≢true e
 lift_ten at q (Some w) e h = λ n x g. let u = from_goes at w q n x g in both_ways _ h (leg_some (λ l. fits at l w q) u.0 u.3)
 
-ten_lift : (at : Sites) (q : ℕ) (o : Option Wafer) → Stuck at q o → occupied (fitting at o q) ≡ false
+ten_lift : (at : Sites) (q : ℕ) (o : Option Wafer) → Stuck at q o → is_some (fitting at o q) ≡ false
 ten_lift at q None s = absurd s
-ten_lift at q (Some w) s = go (occupied (fitting at (Some w) q)) refl
+ten_lift at q (Some w) s = go (is_some (fitting at (Some w) q)) refl
   where
-    go : (b : Bool) → occupied (fitting at (Some w) q) ≡ b → b ≡ false
+    go : (b : Bool) → is_some (fitting at (Some w) q) ≡ b → b ≡ false
     go true e = let u = leg_found (λ l. fits at l w q) e in absurd (s (leg_number u.0) (to_transport u.0) (goes_from at w q u.0 u.1))
     go false e = refl
 
@@ -357,10 +356,10 @@ ten_is_exact ps n h t room (lift id q x) = (
 )
   where
     pre : List Check
-    pre = check 3 (timely t x) ∷ (check 4 (named id) ∷ (check 5 (listed (sites ps) q) ∷ (check 6 (occupied (t.contents.wafer id)) ∷ (check 8 (open_at t q) ∷ (check 9 (not (granted ps t.promise id)) ∷ [])))))
+    pre = check 3 (timely t x) ∷ (check 4 (named id) ∷ (check 5 (listed (sites ps) q) ∷ (check 6 (is_some (t.contents.wafer id)) ∷ (check 8 (open_at t q) ∷ (check 9 (not (granted ps t.promise id)) ∷ [])))))
 
     fit : Bool
-    fit = occupied (fitting (sites ps) (t.contents.wafer id) q)
+    fit = is_some (fitting (sites ps) (t.contents.wafer id) q)
 
     post : List Check
     post = check 11 (ltb (entries_of (t.contents.wafer id)) 16) ∷ []
@@ -384,7 +383,7 @@ ten_is_exact ps n h t room (serve s id x) = (
 )
   where
     pre : List Check
-    pre = check 3 (timely t x) ∷ (check 4 (named id && well_read s) ∷ (check 6 (occupied (t.contents.wafer id)) ∷ (check 9 (not (needs_no_grant s && granted ps t.promise id)) ∷ [])))
+    pre = check 3 (timely t x) ∷ (check 4 (named id && well_read s) ∷ (check 6 (is_some (t.contents.wafer id)) ∷ (check 9 (not (needs_no_grant s && granted ps t.promise id)) ∷ [])))
 
     fit : Bool
     fit = well_ended s && can_all (sites ps) (at_time x) t.contents (served s id (t.contents.wafer id))

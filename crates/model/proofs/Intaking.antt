@@ -1,9 +1,8 @@
 -- The mirror's intake is exact.
-use Rattle.std.proofs.Common.{◌≡◌, ℕ, ◌<◌, ◌≤◌, Bool, true, false, cond, eqb, [], Some, None, Option, sym, refl, ap, ◌∙◌, subst, inl, inr, arith}
+use Rattle.std.proofs.Common.{◌≡◌, ℕ, ◌<◌, ◌≤◌, Bool, true, false, cond, eqb, [], Some, None, Option, sym, refl, ap, ◌∙◌, subst, inl, inr, arith, is_some}
 use Rattle.std.specs.Str.{bytes_eq}
 use Rattle.std.proofs.lemmas.Bool.{true≢false, both_ways, and_parts, and_from, eqb-true, eq-eqb, ne_eqb, leb-true, le-leb, ltb-true, ltb-false, cond-true, cond-false}
 use Rattle.reports.specs.Fields.{Fields}
-use Rattle.table.specs.Lookup.{occupied}
 use Rattle.model.specs.Wafers.{Text, at_time, Wafer}
 use Rattle.model.specs.Places.{Sites, listed, Contents}
 use Rattle.model.specs.Rows.{Leg, row2, row3, row4, row5, row6, leg_number, Change, row8, row10, row11, row12, row13, row14, row17, row18, row19, row20, row21, change_number, Exit, row7, row9, exit_number, Row, enter, move, leave, change, row_number, can, after, used_after, effect, standing, told}
@@ -310,7 +309,7 @@ module _ (at : Sites) (n : ℕ) (m : Mirror) (f : Fields) where
       }
         where
           unlisted : Listed at f.place → ⊥
-          unlisted l = both_ways _ x (ap occupied l.1)
+          unlisted l = both_ways _ x (ap is_some l.1)
 
 pub intake_is_exact : IntakeIsExact
 intake_is_exact at n m f = record {

@@ -1,9 +1,8 @@
 -- A promised place stays one to which its wafer can go.
-use Rattle.std.proofs.Common.{◌≡◌, ℕ, Bool, true, false, not, ◌&&◌, ◌||◌, eqb, ltb, List, [], ◌∷◌, Some, None, Option, sym, refl, ap, ◌∙◌, arith}
+use Rattle.std.proofs.Common.{◌≡◌, ℕ, Bool, true, false, not, ◌&&◌, ◌||◌, eqb, ltb, List, [], ◌∷◌, Some, None, Option, sym, refl, ap, ◌∙◌, arith, is_some}
 use Rattle.std.specs.Str.{bytes_eq}
 use Rattle.std.proofs.lemmas.Bool.{false≢true, and_parts, and_from, or_left, or_right, eqb-true, cond-false}
 use Rattle.std.proofs.lemmas.Bool.Decides.{nat_tests as testing}
-use Rattle.table.specs.Lookup.{occupied}
 use Rattle.model.specs.Wafers.{Text, Times, Wafer, with_processing}
 use Rattle.model.specs.Places.{Plan, Sites, sites, listed, Contents}
 use Rattle.model.specs.Rows.{Leg, row2, row3, row4, row5, row6, from_transport, leads, fits, complete, steady, Change, row8, row10, row11, row12, row13, row14, row17, row18, row19, row20, row21, may_change, changed, Row, enter, move, leave, change, can, can_from, after, place_of, occupant_after, effect}
@@ -18,10 +17,10 @@ to id = Some (record { wafer = id })
 pub leg_holds : (F : Leg → Bool) (l : Leg) → first_leg F ≡ Some l → F l ≡ true
 leg_holds F l e = grind arith
 
-pub leg_found : (F : Leg → Bool) → occupied (first_leg F) ≡ true → (l : Leg) × (F l ≡ true)
+pub leg_found : (F : Leg → Bool) → is_some (first_leg F) ≡ true → (l : Leg) × (F l ≡ true)
 leg_found F h = let u = occupied_some (first_leg F) h in (u.0, leg_holds F u.0 u.1)
 
-pub leg_some : (F : Leg → Bool) (l : Leg) → F l ≡ true → occupied (first_leg F) ≡ true
+pub leg_some : (F : Leg → Bool) (l : Leg) → F l ≡ true → is_some (first_leg F) ≡ true
 leg_some F row2 h = grind arith
 leg_some F row3 h = grind arith
 leg_some F row4 h = grind arith
@@ -30,7 +29,7 @@ leg_some F row6 h = grind arith
 
 -- another processing state may ask for another row, but there is one
 
-goes_by : (at : Sites) (w : Wafer) (q : ℕ) (l : Leg) → eqb w.transport (from_transport l) ≡ true → leads at l w q ≡ true → not (eqb w.processing 1) ≡ true → steady w.processing ≡ true → occupied (fitting at (Some w) q) ≡ true
+goes_by : (at : Sites) (w : Wafer) (q : ℕ) (l : Leg) → eqb w.transport (from_transport l) ≡ true → leads at l w q ≡ true → not (eqb w.processing 1) ≡ true → steady w.processing ≡ true → is_some (fitting at (Some w) q) ≡ true
 goes_by at w q l a b n k = leg_some (λ l. fits at l w q) l (and_from _ _ a (and_from _ _ b (and_from _ _ n k)))
 
 to-source : (q a b : ℕ) (c d : Bool) → (eqb q a && (not (eqb b a) || not c)) ≡ true → (eqb q a && (not (eqb b a) || not d)) ≡ false → (eqb q b && (not (eqb b a) || d)) ≡ true
@@ -39,23 +38,23 @@ to-source q a b c d h k = grind (arith, testing)
 to-destination : (q a b : ℕ) (c d : Bool) → (eqb q b && (not (eqb b a) || c)) ≡ true → (eqb q b && (not (eqb b a) || d)) ≡ false → (eqb q a && (not (eqb b a) || not d)) ≡ true
 to-destination q a b c d h k = grind (arith, testing)
 
-still_goes : (at : Sites) (w : Wafer) (p q : ℕ) (l : Leg) → not (eqb p 1) ≡ true → steady p ≡ true → fits at l w q ≡ true → occupied (fitting at (Some (with_processing p w)) q) ≡ true
+still_goes : (at : Sites) (w : Wafer) (p q : ℕ) (l : Leg) → not (eqb p 1) ≡ true → steady p ≡ true → fits at l w q ≡ true → is_some (fitting at (Some (with_processing p w)) q) ≡ true
 still_goes at w p q l n k h = let u = and_parts _ _ h in go l u.0 (and_parts _ _ u.1).0
   where
     v : Wafer
     v = with_processing p w
 
-    go : (l : Leg) → eqb w.transport (from_transport l) ≡ true → leads at l w q ≡ true → occupied (fitting at (Some v) q) ≡ true
+    go : (l : Leg) → eqb w.transport (from_transport l) ≡ true → leads at l w q ≡ true → is_some (fitting at (Some v) q) ≡ true
     go row2 a b = goes_by at v q row2 a b n k
     go row3 a b = or_else (leads at row3 v q) refl
       where
-        or_else : (t : Bool) → leads at row3 v q ≡ t → occupied (fitting at (Some v) q) ≡ true
+        or_else : (t : Bool) → leads at row3 v q ≡ t → is_some (fitting at (Some v) q) ≡ true
         or_else true c = goes_by at v q row3 a c n k
         or_else false c = goes_by at v q row5 a (to-source q w.source w.destination (complete w.processing) (complete p) b c) n k
     go row4 a b = goes_by at v q row4 a b n k
     go row5 a b = or_else (leads at row5 v q) refl
       where
-        or_else : (t : Bool) → leads at row5 v q ≡ t → occupied (fitting at (Some v) q) ≡ true
+        or_else : (t : Bool) → leads at row5 v q ≡ t → is_some (fitting at (Some v) q) ≡ true
         or_else true c = goes_by at v q row5 a c n k
         or_else false c = goes_by at v q row3 a (to-destination q w.source w.destination (complete w.processing) (complete p) b c) n k
     go row6 a b = goes_by at v q row6 a b n k
@@ -63,7 +62,7 @@ still_goes at w p q l n k h = let u = and_parts _ _ h in go l u.0 (and_parts _ _
 -- what the promise of the place q to the wafer id needs
 pub record Ready (at : Sites) (c : Contents) (id : Text) (q : ℕ) : Type 0 where
   pub free : c.occupant q ≡ None
-  pub goes : occupied (fitting at (c.wafer id) q) ≡ true
+  pub goes : is_some (fitting at (c.wafer id) q) ≡ true
   pub short : ltb (entries_of (c.wafer id)) 16 ≡ true
 
 pub record Kept (at : Sites) (c : Contents) (promise : ℕ → Option Promise) : Type 0 where
@@ -123,7 +122,7 @@ others-stay id i t q (tells p o ∷ ss) c n h = others-stay id i t q ss c n h
 
 ready_with : (at : Sites) (c d : Contents) (i : Text) (q : ℕ) → d.occupant q ≡ None → d.wafer i ≡ c.wafer i → Ready at c i q → Ready at d i q
 ready_with at c d i q f e r =
-    record { free = f; goes = ap (λ (o : Option Wafer). occupied (fitting at o q)) e ∙ r.goes; short = ap (λ (o : Option Wafer). ltb (entries_of o) 16) e ∙ r.short }
+    record { free = f; goes = ap (λ (o : Option Wafer). is_some (fitting at o q)) e ∙ r.goes; short = ap (λ (o : Option Wafer). ltb (entries_of o) 16) e ∙ r.short }
 
 -- the promise of another wafer
 pub ready_other : (at : Sites) (id i : Text) (t : Times) (q : ℕ) (ss : List Step) (c : Contents) → bytes_eq i id ≡ false → avoid_all id q ss ≡ true → Ready at c i q → Ready at (perform t c ss) i q
@@ -154,7 +153,7 @@ mild_all id [] = true
 mild_all id (takes i r ∷ ss) = (bytes_eq i id && mild r) && mild_all id ss
 mild_all id (tells p o ∷ ss) = mild_all id ss
 
-mild_goes : (at : Sites) (id : Text) (w : Wafer) (q : ℕ) (g : Change) → mild_change g ≡ true → may_change at id g w ≡ true → occupied (fitting at (Some w) q) ≡ true → occupied (fitting at (Some (changed g w)) q) ≡ true
+mild_goes : (at : Sites) (id : Text) (w : Wafer) (q : ℕ) (g : Change) → mild_change g ≡ true → may_change at id g w ≡ true → is_some (fitting at (Some w) q) ≡ true → is_some (fitting at (Some (changed g w)) q) ≡ true
 mild_goes at id w q row8 m h k = absurd (false≢true m)
 mild_goes at id w q (row10 r) m h k = absurd (false≢true m)
 mild_goes at id w q row11 m h k = absurd (false≢true m)
@@ -184,8 +183,8 @@ mild_short w (row19 a) = refl
 mild_short w row20 = refl
 mild_short w row21 = refl
 
-ready_change : (at : Sites) (occ : ℕ → Option Text) (id : Text) (t : Times) (q : ℕ) (g : Change) (o : Option Wafer) → mild_change g ≡ true → can_from at occ id o (change g) ≡ true → occupied (fitting at o q) ≡ true → ltb (entries_of o) 16 ≡ true
-    → (occupied (fitting at (after t o (change g)) q) ≡ true) × (ltb (entries_of (after t o (change g))) 16 ≡ true)
+ready_change : (at : Sites) (occ : ℕ → Option Text) (id : Text) (t : Times) (q : ℕ) (g : Change) (o : Option Wafer) → mild_change g ≡ true → can_from at occ id o (change g) ≡ true → is_some (fitting at o q) ≡ true → ltb (entries_of o) 16 ≡ true
+    → (is_some (fitting at (after t o (change g)) q) ≡ true) × (ltb (entries_of (after t o (change g))) 16 ≡ true)
 ready_change at occ id t q g None m h a b = absurd (false≢true h)
 ready_change at occ id t q g (Some w) m h a b = (mild_goes at id w q g m h a, ap (λ n. ltb n 16) (mild_short w g) ∙ b)
 
@@ -216,7 +215,7 @@ ready_mild at id t q (takes i (change g) ∷ ss) c m h r =
     let able : can_from at c.occupant id (c.wafer id) (change g) ≡ true = sym (ap (λ (j : Text). can_from at c.occupant j (c.wafer j) (change g)) e) ∙ v.0 in
     let y = ready_change at c.occupant id t q g (c.wafer id) x.1 able r.goes r.short in
     ready_mild at id t q ss (effect t i (change g) c) u.1 v.1
-    (record { free = r.free; goes = ap (λ (o : Option Wafer). occupied (fitting at o q)) own ∙ y.0; short = ap (λ (o : Option Wafer). ltb (entries_of o) 16) own ∙ y.1 })
+    (record { free = r.free; goes = ap (λ (o : Option Wafer). is_some (fitting at o q)) own ∙ y.0; short = ap (λ (o : Option Wafer). ltb (entries_of o) 16) own ∙ y.1 })
 ready_mild at id t q (tells p o ∷ ss) c m h r = ready_mild at id t q ss c m h r
 
 -- a promise of a listed place is one that the wafer has
@@ -229,4 +228,4 @@ granted-listed (Some s ∷ ps) f q id h e = go (eqb s.code q) refl (λ x. grante
     go true x again =
         let z : f s.code ≡ to id = ap f (eqb-true s.code q x) ∙ e in
         or_left _ _ (ap (λ (o : Option Promise). promised_to o id) z ∙ same_refl id)
-    go false x again = or_right _ _ (again (sym (ap occupied (cond-false (eqb s.code q) _ _ x)) ∙ h))
+    go false x again = or_right _ _ (again (sym (ap is_some (cond-false (eqb s.code q) _ _ x)) ∙ h))

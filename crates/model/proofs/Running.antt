@@ -1,29 +1,22 @@
 -- Every run keeps the law.
-use Rattle.std.proofs.Common.{◌≡◌, ℕ, zero, suc, ◌≤◌, Bool, true, false, cond, ◌&&◌, eqb, ltb, List, [], ◌∷◌, ◌++◌, Some, None, Option, sym, refl, ap, ◌∙◌, subst, arith}
-use Rattle.std.proofs.lemmas.Bool.{both_ways, and_parts, or_parts, or_from, eqb-true, eq-eqb}
-use Rattle.table.specs.Lookup.{later, in_use}
+use Rattle.std.proofs.Common.{◌≡◌, ℕ, ◌≤◌, Bool, true, false, cond, ◌&&◌, eqb, ltb, List, [], ◌∷◌, ◌++◌, Some, None, Option, sym, refl, ap, ◌∙◌, subst, arith}
+use Rattle.std.proofs.lemmas.Bool.{both_ways, false≢true, and_parts, or_parts, or_from, eqb-true, eq-eqb}
+use Rattle.std.proofs.lemmas.List.{append_assoc, append-nil}
+use Rattle.std.proofs.lemmas.List.Quantifiers.{position-Some}
+use Rattle.std.specs.Option.{option_map}
+use Rattle.table.specs.Lookup.{bears, in_use, row_at}
 use Rattle.model.specs.Wafers.{Wafer}
-use Rattle.model.specs.Places.{Plan, Sites, sites, index, code_at, Contents}
+use Rattle.model.specs.Places.{Plan, Spot, Sites, sites, index, code_at, Contents}
 use Rattle.model.specs.Switches.{Switches, silent_at, quiet, all_off, with_reader, silenced_at}
 use Rattle.model.specs.Mirroring.{Mirror, blank_mirror, Intake, taken, intake_all, hears}
 use Rattle.model.specs.Steps.{Step, perform}
 use Rattle.model.specs.Calls.{Tracker, made_tracker, Call, Answer, steps_of, time_of, times_of, refusal, due, resolved}
 use Rattle.model.specs.Transitions.{Traced, nothing}
 use Rattle.model.specs.Runs.{Event, call, reader, silence, begin, finish, Setup, Matched, World, answers_after, restored, Took, Path, Begun, Reached, names, silences, ever_silenced, BothHold, Each, Sound, Law, ByRows, Along}
-use Rattle.model.proofs.Basics.{some_none, some_same}
+use Rattle.model.proofs.Basics.{some_none}
 use Rattle.model.proofs.Performing.{heard_places, heard_told, Mirrored, mirrored, intake_append, hears-taken, sound_all, traced}
 use Rattle.model.proofs.Promises.{Kept}
 use Rattle.model.proofs.Accepting.{Accepted, accepted}
-
--- lists
-
-append_nil : {A : Type 0} (a : List A) → a ++ [] ≡ a
-append_nil [] = refl
-append_nil (x ∷ a) = ap (◌∷◌ x) (append_nil a)
-
-pub append_assoc : {A : Type 0} (a b c : List A) → (a ++ b) ++ c ≡ a ++ (b ++ c)
-append_assoc [] b c = refl
-append_assoc (x ∷ a) b c = ap (◌∷◌ x) (append_assoc a b c)
 
 -- never silenced over events, nor by the next
 ever_parts : (ps : Plan) (p : ℕ) (es : List Event) (e : Event) → ever_silenced ps p (es ++ e ∷ []) ≡ false → (ever_silenced ps p es ≡ false) × (silences ps p e ≡ false)
@@ -35,27 +28,11 @@ ever_parts ps p (x ∷ es) e h =
 
 -- the place at the position of a code has that code
 index-code : (ps : Plan) (p j : ℕ) → index ps p ≡ Some j → code_at ps j ≡ Some p
-index-code [] p j e = some_none _ j (sym e)
-index-code (None ∷ ps) p j e = go (index ps p) (index-code ps p) j e
+index-code ps p j e = coded (row_at ps j) (position-Some (bears (λ s. s.code) eqb p) ps j None e).1
   where
-    go : (o : Option ℕ) → ((i : ℕ) → o ≡ Some i → code_at ps i ≡ Some p) → (j : ℕ) → later o ≡ Some j → code_at (None ∷ ps) j ≡ Some p
-    go None again j e = some_none _ j (sym e)
-    go (Some i) again zero e = let z : suc i ≡ 0 = some_same (suc i) 0 e in absurd (omega arith)
-    go (Some i) again (suc j) e = again j (ap Some (let z : suc i ≡ suc j = some_same (suc i) (suc j) e in omega arith))
-index-code (Some s ∷ ps) p j e = by_code (eqb s.code p) refl (index-code ps p) e
-  where
-    go : (o : Option ℕ) → ((i : ℕ) → o ≡ Some i → code_at ps i ≡ Some p) → (j : ℕ) → later o ≡ Some j → code_at (Some s ∷ ps) j ≡ Some p
-    go None again j e = some_none _ j (sym e)
-    go (Some i) again zero e = let z : suc i ≡ 0 = some_same (suc i) 0 e in absurd (omega arith)
-    go (Some i) again (suc j) e = again j (ap Some (let z : suc i ≡ suc j = some_same (suc i) (suc j) e in omega arith))
-
-    first : (j : ℕ) → s.code ≡ p → Some 0 ≡ Some j → code_at (Some s ∷ ps) j ≡ Some p
-    first zero x e = ap Some x
-    first (suc j) x e = let z : 0 ≡ suc j = some_same 0 (suc j) e in absurd (omega arith)
-
-    by_code : (b : Bool) → eqb s.code p ≡ b → ((i : ℕ) → index ps p ≡ Some i → code_at ps i ≡ Some p) → cond b (Some 0) (later (index ps p)) ≡ Some j → code_at (Some s ∷ ps) j ≡ Some p
-    by_code true x again e = first j (eqb-true s.code p x) e
-    by_code false x again e = go (index ps p) again j e
+    coded : (o : Option Spot) → bears (λ s. s.code) eqb p o ≡ true → option_map (λ s. s.code) o ≡ Some p
+    coded None t = absurd (false≢true t)
+    coded (Some s) t = ap Some (eqb-true s.code p t)
 
 -- a switch other than the place's own is set, or its own to off
 quiet-set : (ps : Plan) (h : Switches) (i p : ℕ) (b : Bool) → (names (code_at ps i) p ≡ true → b ≡ false) → quiet ps h p ≡ false → quiet ps (silenced_at i b h) p ≡ false
@@ -146,7 +123,7 @@ switch_together : (s : Setup) (es : List Event) (e : Event) (w : World) (h : Swi
     → Together s (es ++ e ∷ []) (after_switch w h v room ys)
 switch_together s es e w h v room ys g loud visited = record {
   same = g.same;
-  taken_all = ap (intake_all (sites s.plan) s.mirror_rows (taken blank_mirror)) (append_nil w.reports) ∙ g.taken_all;
+  taken_all = ap (intake_all (sites s.plan) s.mirror_rows (taken blank_mirror)) (append-nil w.reports) ∙ g.taken_all;
   in_time = g.in_time;
   sound = g.sound;
   kept = g.kept;
@@ -165,7 +142,7 @@ between a b c h k = omega arith
 call_together : (s : Setup) (es : List Event) (w : World) (k : Call) (room : ℕ) → Matched s → Together s es w → (o : Option ℕ) → refusal s.plan s.rows w.switches w.tracker w.room k ≡ o → Together s (es ++ call k ∷ []) (after_call s w k room o)
 call_together s es w k room m g (Some n) e = record {
   same = g.same;
-  taken_all = ap (intake_all (sites s.plan) s.mirror_rows (taken blank_mirror)) (append_nil w.reports) ∙ g.taken_all;
+  taken_all = ap (intake_all (sites s.plan) s.mirror_rows (taken blank_mirror)) (append-nil w.reports) ∙ g.taken_all;
   in_time = g.in_time;
   sound = g.sound;
   kept = g.kept;
@@ -258,7 +235,7 @@ first_together s room = record {
     all_quiet (Some i) = refl
 
 path_together : (s : Setup) → Matched s → (fs es : List Event) (w w' : World) → Together s es w → Path s w fs w' → Together s (es ++ fs) w'
-path_together s m [] es w w' g e = subst (Together s (es ++ [])) (sym e) (subst (λ (xs : List Event). Together s xs w) (sym (append_nil es)) g)
+path_together s m [] es w w' g e = subst (Together s (es ++ [])) (sym e) (subst (λ (xs : List Event). Together s xs w) (sym (append-nil es)) g)
 path_together s m (f ∷ fs) es w w' g (v, t, p) =
     subst (λ (xs : List Event). Together s xs w') (append_assoc es (f ∷ []) fs) (path_together s m fs (es ++ f ∷ []) v w' (took_together s es w f v m g t) p)
 

@@ -1,9 +1,8 @@
 -- The tests of the rows say what the table of transitions says.
-use Rattle.std.proofs.Common.{◌≡◌, ℕ, Bool, true, false, not, ◌&&◌, eqb, ltb, leb, ◌⊎◌, List, [], ◌∷◌, length, Some, None, Option, sym, refl, ap, ◌∙◌, subst, inl, inr, ⊎_elim, arith}
+use Rattle.std.proofs.Common.{◌≡◌, ℕ, Bool, true, false, not, ◌&&◌, eqb, ltb, leb, ◌⊎◌, List, [], ◌∷◌, length, Some, None, Option, sym, refl, ap, ◌∙◌, subst, inl, inr, ⊎_elim, arith, is_some}
 use Rattle.std.proofs.lemmas.Bool.{false≢true, both_ways, not-true, not_from_false, and_parts, and_from, or_cases, or_left, or_right, eqb-true, eq-eqb, ne_eqb, leb-true, le-leb, ltb-true, lt-ltb, cond-true}
 use Rattle.std.proofs.lemmas.Bool.Decides.{nat_tests}
 use Rattle.reports.specs.Bounds.{blank}
-use Rattle.table.specs.Lookup.{occupied}
 use Rattle.model.specs.Wafers.{Text, Times, Stay, Wafer, with_reading, moved_to}
 use Rattle.model.specs.Places.{Spot, Sites, listed, is_station, station}
 use Rattle.model.specs.Rows.{Leg, row2, row3, row4, row5, row6, leg_number, from_transport, to_transport, leads, fits, complete, steady, reads_as, Change, row8, row10, row11, row12, row13, row14, row17, row18, row19, row20, row21, change_number, may_change, changed, row7, row9, Row, enter, move, leave, change, row_number, can_from, after}
@@ -19,7 +18,7 @@ from_other : (a b : ℕ) → Other a b → not (eqb a b) ≡ true
 from_other a b h = not_from_false _ (ne_eqb a b h)
 
 listed_from : (at : Sites) (p : ℕ) → Listed at p → listed at p ≡ true
-listed_from at p h = ap occupied h.1
+listed_from at p h = ap is_some h.1
 
 station-at : (o : Option Spot) → is_station o ≡ true → (s : Spot) × (o ≡ Some s) × (s.kind ≡ 1)
 station-at None h = absurd (false≢true h)

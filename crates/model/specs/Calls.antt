@@ -1,10 +1,9 @@
 -- The tracker's calls: what each is checked for, its steps, and what comes of it.
-use Rattle.std.specs.Prelude.{ℕ, Bool, true, false, cond, not, ◌&&◌, ◌||◌, List, [], ◌∷◌, ◌++◌, length, Some, None, Option, ◌==◌, nat_le, nat_lt}
+use Rattle.std.specs.Prelude.{ℕ, Bool, true, false, cond, not, ◌&&◌, ◌||◌, List, [], ◌∷◌, ◌++◌, length, Some, None, Option, ◌==◌, nat_le, nat_lt, is_some, is_none}
 use Rattle.std.specs.Str.{bytes_eq}
 use Rattle.reports.specs.Fields.{Fields}
 use Rattle.texts.specs.Form.{named}
 use Rattle.values.specs.Values.{is_moment}
-use Rattle.table.specs.Lookup.{occupied, vacant}
 use Rattle.model.specs.Wafers.{Text, Times, at_time, Wafer}
 use Rattle.model.specs.Places.{Spot, Plan, Sites, sites, listed, Contents, put_code, nothing_held}
 use Rattle.model.specs.Switches.{Switches, quiet}
@@ -175,7 +174,7 @@ timely t x = is_moment x && nat_le t.latest x
 
 -- the place has neither an occupant nor a promise
 abbrev pub open_at : Tracker → ℕ → Bool
-open_at t p = vacant (t.contents.occupant p) && vacant (t.promise p)
+open_at t p = is_none (t.contents.occupant p) && is_none (t.promise p)
 
 -- calls that want no open grant for the wafer
 abbrev pub needs_no_grant : Service → Bool
@@ -229,7 +228,7 @@ checks_of ps n t (register id p d x) =
     check 3 (timely t x)
     ∷ (check 4 (named id)
     ∷ (check 5 (listed (sites ps) p && listed (sites ps) (destination_of p d))
-    ∷ (check 7 (vacant (t.contents.wafer id))
+    ∷ (check 7 (is_none (t.contents.wafer id))
     ∷ (check 8 (open_at t p)
     ∷ (check 12 (nat_lt t.contents.used n)
     ∷ [])))))
@@ -237,10 +236,10 @@ checks_of ps n t (lift id q x) =
     check 3 (timely t x)
     ∷ (check 4 (named id)
     ∷ (check 5 (listed (sites ps) q)
-    ∷ (check 6 (occupied (t.contents.wafer id))
+    ∷ (check 6 (is_some (t.contents.wafer id))
     ∷ (check 8 (open_at t q)
     ∷ (check 9 (not (granted ps t.promise id))
-    ∷ (check 10 (occupied (fitting (sites ps) (t.contents.wafer id) q))
+    ∷ (check 10 (is_some (fitting (sites ps) (t.contents.wafer id) q))
     ∷ (check 11 (nat_lt (entries_of (t.contents.wafer id)) 16)
     ∷ [])))))))
 checks_of ps n t (set_down g x) = check 3 (timely t x) ∷ (check 13 (honoured (sites ps) t g) ∷ [])
@@ -248,7 +247,7 @@ checks_of ps n t (put_back g) = check 13 (honoured (sites ps) t g) ∷ []
 checks_of ps n t (serve s id x) =
     check 3 (timely t x)
     ∷ (check 4 (named id && well_read s)
-    ∷ (check 6 (occupied (t.contents.wafer id))
+    ∷ (check 6 (is_some (t.contents.wafer id))
     ∷ (check 9 (not (needs_no_grant s && granted ps t.promise id))
     ∷ (check 10 (well_ended s && can_all (sites ps) (at_time x) t.contents (served s id (t.contents.wafer id)))
     ∷ []))))

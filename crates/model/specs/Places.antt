@@ -1,8 +1,8 @@
 -- The places of a cabinet, and what tracker and mirror hold of wafers and occupants.
-use Rattle.std.specs.Prelude.{ℕ, Bool, false, cond, List, Some, None, Option, ◌==◌, nat_eq}
+use Rattle.std.specs.Prelude.{ℕ, Bool, false, cond, List, Some, None, Option, ◌==◌, nat_eq, is_some, position}
 use Rattle.std.specs.Option.{option_map}
 use Rattle.std.specs.Str.{bytes_eq}
-use Rattle.table.specs.Lookup.{bears, lookup, occupied, position, row_at}
+use Rattle.table.specs.Lookup.{bears, lookup, row_at}
 use Rattle.model.specs.Wafers.{Text, Wafer}
 
 -- a place of the list: its code, and its kind (0 slot, 1 station)
@@ -22,7 +22,7 @@ abbrev pub sites : Plan → Sites
 sites ps p = lookup (λ s. s.code) nat_eq ps p
 
 abbrev pub listed : Sites → ℕ → Bool
-listed at p = occupied (at p)
+listed at p = is_some (at p)
 
 abbrev pub is_station : Option Spot → Bool
 is_station None = false

@@ -1,8 +1,7 @@
 -- The rows of the table of transitions: when each can be taken, and what it does.
-use Rattle.std.specs.Prelude.{ℕ, suc, pred, Bool, false, not, ◌&&◌, ◌||◌, length, Some, None, Option, ◌==◌, nat_le, nat_lt}
+use Rattle.std.specs.Prelude.{ℕ, suc, pred, Bool, false, not, ◌&&◌, ◌||◌, length, Some, None, Option, ◌==◌, nat_le, nat_lt, is_none}
 use Rattle.std.specs.Str.{bytes_eq}
 use Rattle.reports.specs.Bounds.{blank}
-use Rattle.table.specs.Lookup.{vacant}
 use Rattle.model.specs.Wafers.{Text, Times, Wafer, registered, with_transport, with_processing, with_reading, moved_to}
 use Rattle.model.specs.Places.{Sites, listed, station, Contents, put_text, put_code}
 
@@ -118,12 +117,12 @@ may_change at id row21 w = w.reading == 2 && steady w.processing
 
 -- whether the wafer `id`, which is `o`, can take the row
 abbrev pub can_from : Sites → (ℕ → Option Text) → Text → Option Wafer → Row → Bool
-can_from at occ id None (enter p d) = listed at p && (vacant (occ p) && listed at d)
+can_from at occ id None (enter p d) = listed at p && (is_none (occ p) && listed at d)
 can_from at occ id None (move l q) = false
 can_from at occ id None (leave e) = false
 can_from at occ id None (change g) = false
 can_from at occ id (Some w) (enter p d) = false
-can_from at occ id (Some w) (move l q) = fits at l w q && (listed at q && (vacant (occ q) && nat_lt (length w.history) 16))
+can_from at occ id (Some w) (move l q) = fits at l w q && (listed at q && (is_none (occ q) && nat_lt (length w.history) 16))
 can_from at occ id (Some w) (leave e) = may_leave e w
 can_from at occ id (Some w) (change g) = may_change at id g w
 

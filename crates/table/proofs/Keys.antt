@@ -1,9 +1,10 @@
 -- What looking up by key gives, before and after one row of the table changes.
-use Rattle.std.proofs.Common.{◌≡◌, ℕ, zero, suc, ◌<◌, Bool, true, false, cond, List, [], ◌∷◌, length, set, Some, None, Decides, Option, sym, refl, ap, ◌∙◌, subst, ⊎_elim, arith}
+use Rattle.std.proofs.Common.{◌≡◌, ℕ, zero, suc, ◌<◌, Bool, true, false, cond, List, [], ◌∷◌, length, set, is_some, Some, None, Decides, Option, sym, refl, ap, ◌∙◌, subst, ⊎_elim, arith}
 use Rattle.std.proofs.lemmas.List.{get_or_past}
-use Rattle.std.proofs.lemmas.Bool.{both_ways, cases_Bool, cases_lt, cond-true, cond-false, cond_both, false≢true}
-use Rattle.table.specs.Lookup.{bears, count, lookup, position, row_at, row_found, Stands}
-use Rattle.table.specs.Laws.{First, Found, NoneFound, Others}
+use Rattle.std.proofs.lemmas.Bool.{both_ways, cases_Bool, cases_lt, cond-true, cond-false, false≢true}
+use Rattle.std.specs.List.{count_by, position}
+use Rattle.table.specs.Lookup.{bears, lookup, row_at, row_found, Stands}
+use Rattle.table.specs.Laws.{First, NoneFound}
 use Rattle.table.proofs.Places.{NoneBelow, Leads, leads-position, count_some}
 
 -- a row in use stands within the table
@@ -14,9 +15,9 @@ within (x ∷ rows) (suc i) r e = omega (arith, within rows i r e)
 
 module _ {R M : Type 0} (says : R → M) (tells : M → M → Bool) where
   -- what has a key is a row in use
-  pub bears_some : (m : M) (x : Option R) → bears says tells m x ≡ true → x ≡ None → ⊥
-  bears_some m None t e = false≢true t
-  bears_some m (Some r) t e = let z : ◌≡◌ {A = ℕ} 0 1 = cc in omega arith
+  bears_some : (m : M) (x : Option R) → bears says tells m x ≡ true → is_some x ≡ true
+  bears_some m None t = absurd (false≢true t)
+  bears_some m (Some r) t = refl
 
   -- the row that is looked up stands at the first position with the key
   pub lookup-leads : (rows : List (Option R)) (m : M) (r : Option ℕ) → Leads (bears says tells m) rows r → lookup says tells rows m ≡ row_found rows r
@@ -28,18 +29,32 @@ module _ {R M : Type 0} (says : R → M) (tells : M → M → Bool) where
   lookup-leads (x ∷ rows) m (Some (suc i)) (l, t, h) =
       cond-false (bears says tells m x) _ _ (h 0 (omega arith)) ∙ lookup-leads rows m (Some i) (omega arith, t, λ k n. h (suc k) (omega arith))
 
-  pub lookup-none : (rows : List (Option R)) (m : M) (r : Option ℕ) → Leads (bears says tells m) rows r → lookup says tells rows m ≡ None → r ≡ None
-  lookup-none rows m None h e = refl
-  lookup-none rows m (Some i) (l, t, h) e = absurd (bears_some m (row_at rows i) t (sym (lookup-leads rows m (Some i) (l, t, h)) ∙ e))
+  pub lookup-position : (rows : List (Option R)) (m : M) → lookup says tells rows m ≡ row_found rows (position (bears says tells m) rows)
+  lookup-position rows m = lookup-leads rows m _ (leads-position (bears says tells m) rows)
 
-  pub none-leads : (rows : List (Option R)) (m : M) (r : Option ℕ) → Leads (bears says tells m) rows r → NoneFound says tells m rows r
-  none-leads rows m r h = (lookup-none rows m r h, λ e. lookup-leads rows m r h ∙ ap (row_found rows) e)
+  found_leads : (rows : List (Option R)) (m : M) (r : Option ℕ) → Leads (bears says tells m) rows r → is_some (lookup says tells rows m) ≡ is_some r
+  found_leads rows m None h = ap is_some (lookup-leads rows m None h)
+  found_leads rows m (Some i) (l, t, h) = ap is_some (lookup-leads rows m (Some i) (l, t, h)) ∙ bears_some m (row_at rows i) t
+
+  -- a row is found exactly if there is a position for it
+  pub found-position : (rows : List (Option R)) (m : M) → is_some (lookup says tells rows m) ≡ is_some (position (bears says tells m) rows)
+  found-position rows m = found_leads rows m _ (leads-position (bears says tells m) rows)
+
+  pub none-position : (rows : List (Option R)) (m : M) → NoneFound says tells m rows (position (bears says tells m) rows)
+  none-position rows m = (
+    (λ e. none_some _ (sym (found-position rows m) ∙ ap is_some e)),
+    (λ e. lookup-position rows m ∙ ap (row_found rows) e),
+  )
+    where
+      none_some : (r : Option ℕ) → is_some r ≡ false → r ≡ None
+      none_some None e = refl
+      none_some (Some i) e = absurd (false≢true (sym e))
 
   -- no row has a key that is looked up in vain
   pub lookup_below : (rows : List (Option R)) (m : M) → lookup says tells rows m ≡ None → (k : ℕ) → bears says tells m (row_at rows k) ≡ false
   lookup_below rows m e k =
       let test : Option R → Bool = bears says tells m in
-      let p : position test rows ≡ None = lookup-none rows m (position test rows) (leads-position test rows) e in
+      let p : position test rows ≡ None = (none-position rows m).0 e in
       let h : Leads test rows None = subst (Leads test rows) p (leads-position test rows) in
       ⊎_elim (h k) (λ past. ap test (get_or_past rows k None past)) (cases_lt k (length rows))
 
@@ -55,7 +70,7 @@ module _ {R M : Type 0} (says : R → M) (tells : M → M → Bool) where
       cond-false (bears says tells m y) _ _ (h 0 (omega arith)) ∙ lookup_set_first rows i x m (omega arith) (λ k n. h (suc k) (omega arith)) t
 
   -- a key that no row counts for is looked up in vain
-  pub lookup-count : (rows : List (Option R)) (m : M) → count (bears says tells m) rows ≡ 0 → lookup says tells rows m ≡ None
+  pub lookup-count : (rows : List (Option R)) (m : M) → count_by (bears says tells m) rows ≡ 0 → lookup says tells rows m ≡ None
   lookup-count rows m z = go (position test rows) (leads-position test rows)
     where
       test : Option R → Bool
@@ -80,21 +95,11 @@ module _ {R M : Type 0} (says : R → M) (tells : M → M → Bool) (exact : (a 
       go None e t = absurd (false≢true t)
       go (Some r) e t = (r, e, (exact (says r) m).0 t)
 
-  pub first_leads : (rows : List (Option R)) (m : M) (r : Option ℕ) → Leads (bears says tells m) rows r → First says m rows r
+  first_leads : (rows : List (Option R)) (m : M) (r : Option ℕ) → Leads (bears says tells m) rows r → First says m rows r
   first_leads rows m None h =
       λ k s. both_ways (bears says tells m (row_at rows k)) (h k (within rows k s.0 s.1)) (stands-bears rows k m s)
   first_leads rows m (Some i) (l, t, h) =
       (bears-stands rows i m t, λ k n s. both_ways (bears says tells m (row_at rows k)) (h k n) (stands-bears rows k m s))
 
--- the row at the first position with the key is one with the key
-pub found_first : {R M : Type 0} (says : R → M) (rows : List (Option R)) (m : M) (r : Option ℕ) (x : Option R) → x ≡ row_found rows r → First says m rows r → Found says m rows x
-found_first says rows m None x p h = subst (Found says m rows) (sym p) h
-found_first says rows m (Some i) x p ((r, e, k), h) = subst (Found says m rows) (sym (p ∙ e)) (k, (i, e))
-
--- where only the key k is looked up anew, the look-up as a function
-pub lookup_updated : {R M : Type 0} (says : R → M) (tells : M → M → Bool) → ((a b : M) → Decides (tells a b) (a ≡ b)) → (rows rows' : List (Option R)) (k : M) (x : Option R) → lookup says tells rows' k ≡ x → Others says tells k rows rows' → lookup says tells rows' ≡ (λ m. cond (tells m k) x (lookup says tells rows m))
-lookup_updated {R} {M} says tells exact rows rows' k x own others = λ i m. each m i
-  where
-    each : (m : M) → lookup says tells rows' m ≡ cond (tells m k) x (lookup says tells rows m)
-    each m =
-        cond_both (tells m k) x (lookup says tells rows m) (λ y. lookup says tells rows' m ≡ y) (λ t. ap (lookup says tells rows') ((exact m k).0 t) ∙ own) (λ f. others m (λ e. both_ways (tells m k) f ((exact m k).1 e)))
+  pub first-position : (rows : List (Option R)) (m : M) → First says m rows (position (bears says tells m) rows)
+  first-position rows m = first_leads rows m _ (leads-position (bears says tells m) rows)

@@ -2,4 +2,3 @@ pub mod Places
 pub mod Frees
 pub mod Keys
 pub mod Changes
-pub mod Calls

@@ -1,8 +1,10 @@
 -- Tests on the rows of a table, by position: the first that passes, and how many pass.
-use Rattle.std.proofs.Common.{◌≡◌, ℕ, zero, suc, ◌+◌, ◌<◌, ◌≤◌, Bool, true, false, List, [], ◌∷◌, length, get_or, set, Some, None, Option, sym, refl, ap, ◌∙◌, arith, below_more}
-use Rattle.std.proofs.lemmas.Bool.{cond-true, cond-false, cond_both}
-use Rattle.std.proofs.lemmas.List.{get_or_read, length-set}
-use Rattle.table.specs.Lookup.{count, later, one_if, placed, position, row_at}
+use Rattle.std.proofs.Common.{◌≡◌, ℕ, suc, ◌+◌, ◌<◌, ◌≤◌, Bool, true, false, cond, List, [], ◌∷◌, length, ltb, set, Some, None, Option, refl, ap, arith}
+use Rattle.std.specs.List.{count_by, position, position_or_len}
+use Rattle.std.proofs.lemmas.Bool.{cond_both, ltb-false, ltb-true}
+use Rattle.std.proofs.lemmas.List.{length-set}
+use Rattle.std.proofs.lemmas.List.Sums.{fails_before_first, get_or-le-sum_by, passes_at_first, sum_by-cons, sum_by-set}
+use Rattle.table.specs.Lookup.{placed, row_at}
 
 module _ {R : Type 0} (test : Option R → Bool) where
   -- no row below i passes
@@ -14,62 +16,27 @@ module _ {R : Type 0} (test : Option R → Bool) where
   Leads rows None = NoneBelow rows (length rows)
   Leads rows (Some i) = (i < length rows) × (test (row_at rows i) ≡ true) × NoneBelow rows i
 
-  below_cons : (x : Option R) (rows : List (Option R)) (i : ℕ) → test x ≡ false → NoneBelow rows i → NoneBelow (x ∷ rows) (suc i)
-  below_cons x rows i e h zero l = e
-  below_cons x rows i e h (suc k) l = h k (omega arith)
-
-  below_tail : (x : Option R) (rows : List (Option R)) (i : ℕ) → NoneBelow (x ∷ rows) (suc i) → NoneBelow rows i
-  below_tail x rows i h k l = h (suc k) (omega arith)
-
-  -- an answer that leads is the position
-  pub position-leads : (rows : List (Option R)) (r : Option ℕ) → Leads rows r → r ≡ position test rows
-  position-leads [] None h = refl
-  position-leads [] (Some i) (l, t, h) = absurd (omega arith)
-  position-leads (x ∷ rows) None h =
-      sym (cond-false (test x) _ _ (h 0 (omega arith)) ∙ ap later (sym (position-leads rows None (below_tail x rows (length rows) h))))
-  position-leads (x ∷ rows) (Some zero) (l, t, h) = sym (cond-true (test x) _ _ t)
-  position-leads (x ∷ rows) (Some (suc i)) (l, t, h) =
-      sym (cond-false (test x) _ _ (h 0 (omega arith)) ∙ ap later (sym (position-leads rows (Some i) (omega arith, t, below_tail x rows i h))))
-
-  leads-later : (x : Option R) (rows : List (Option R)) (r : Option ℕ) → test x ≡ false → Leads rows r → Leads (x ∷ rows) (later r)
-  leads-later x rows None e h = below_cons x rows (length rows) e h
-  leads-later x rows (Some i) e (l, t, h) = (omega arith, t, below_cons x rows i e h)
-
   -- the position leads
   pub leads-position : (rows : List (Option R)) → Leads rows (position test rows)
-  leads-position [] = λ k l. absurd (omega arith)
-  leads-position (x ∷ rows) =
-      cond_both (test x) (Some 0) (later (position test rows)) (Leads (x ∷ rows)) (λ e. (omega arith, e, λ k l. absurd (omega arith))) (λ e. leads-later x rows (position test rows) e (leads-position rows))
+  leads-position rows =
+      cond_both (ltb first (length rows)) (Some first) None (Leads rows)
+      (λ t. let l = ltb-true first (length rows) t in (l, passes_at_first test rows None l, λ k. fails_before_first test rows k None))
+      (λ f k l. fails_before_first test rows k None (omega (arith, ltb-false first (length rows) f)))
+    where
+      first : ℕ
+      first = position_or_len test rows
 
-  -- a row that was read passes or not as the row at its place does
-  pub leads_here : (rows : List (Option R)) (i : ℕ) (x : Option R) → i < length rows → x ≡ get_or rows i x → NoneBelow rows i → true ≡ test x → Leads rows (Some i)
-  leads_here rows i x l e h t = (l, ap test (sym (get_or_read rows i x l e None)) ∙ sym t, h)
-
-  -- the end is reached
-  pub leads-end : (rows : List (Option R)) (i : ℕ) → length rows ≤ i → NoneBelow rows i → Leads rows None
-  leads-end rows i l h k n = h k (omega arith)
-
-  pub below_here : (rows : List (Option R)) (i : ℕ) (x : Option R) → i < length rows → x ≡ get_or rows i x → NoneBelow rows i → false ≡ test x → NoneBelow rows (i + 1)
-  below_here rows i x l e h t = below_more _ _ h (ap test (sym (get_or_read rows i x l e None)) ∙ sym t)
-
-  pub count_set : (rows : List (Option R)) (i : ℕ) (x : Option R) → i < length rows → count test (set rows i x) + one_if (test (row_at rows i)) ≡ count test rows + one_if (test x)
-  count_set [] i x l = absurd (omega arith)
-  count_set (y ∷ rows) zero x l = omega arith
-  count_set (y ∷ rows) (suc i) x l = omega (arith, count_set rows i x (omega arith))
-
-  pub count_most : (rows : List (Option R)) → count test rows ≤ length rows
-  count_most [] = omega arith
-  count_most (x ∷ rows) = cond_both (test x) 1 0 (λ n. n + count test rows ≤ suc (length rows)) (λ e. omega (arith, count_most rows)) (λ e. omega (arith, count_most rows))
+  pub count_set : (rows : List (Option R)) (i : ℕ) (x : Option R) → i < length rows → count_by test (set rows i x) + cond (test (row_at rows i)) 1 0 ≡ count_by test rows + cond (test x) 1 0
+  count_set rows i x l = sum_by-set (λ y. cond (test y) 1 0) rows i x None l
 
   -- one row at least passes where one does
-  pub count_some : (rows : List (Option R)) (i : ℕ) → i < length rows → test (row_at rows i) ≡ true → 1 ≤ count test rows
-  count_some [] i l t = absurd (omega arith)
-  count_some (x ∷ rows) zero l t = omega (arith, ap one_if t)
-  count_some (x ∷ rows) (suc i) l t = omega (arith, count_some rows i (omega arith) t)
+  pub count_some : (rows : List (Option R)) (i : ℕ) → i < length rows → test (row_at rows i) ≡ true → 1 ≤ count_by test rows
+  count_some rows i l t = omega (arith, get_or-le-sum_by (λ y. cond (test y) 1 0) rows i None l, ap {B = ℕ} (λ b. cond b 1 0) t)
 
-  pub count_none : (rows : List (Option R)) → NoneBelow rows (length rows) → count test rows ≡ 0
+  pub count_none : (rows : List (Option R)) → NoneBelow rows (length rows) → count_by test rows ≡ 0
   count_none [] h = refl
-  count_none (x ∷ rows) h = omega (arith, ap one_if (h 0 (omega arith)), count_none rows (below_tail x rows (length rows) h))
+  count_none (x ∷ rows) h =
+      omega (arith, sum_by-cons (λ y. cond (test y) 1 0) x rows, ap {B = ℕ} (λ b. cond b 1 0) (h 0 (omega arith)), count_none rows (λ k l. h (suc k) (omega arith)))
 
 pub length-placed : {X : Type 0} (xs : List X) (x : X) (r : Option ℕ) → length (placed xs x r) ≡ length xs
 length-placed xs x None = refl

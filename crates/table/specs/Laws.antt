@@ -1,6 +1,6 @@
 -- What the calls of a table keep to, over any rows and keys.
-use Rattle.std.specs.Prelude.{◌≡◌, ℕ, ◌+◌, ◌<◌, Bool, true, List, length, is_some, Some, None, Option, ◌≢◌}
-use Rattle.table.specs.Lookup.{in_use, lookup, one_if, row_at, vacant, Once, Stands}
+use Rattle.std.specs.Prelude.{◌≡◌, ℕ, ◌+◌, ◌<◌, Bool, true, cond, List, length, is_some, is_none, Some, None, Option, ◌≢◌}
+use Rattle.table.specs.Lookup.{in_use, lookup, row_at, Once, Stands}
 
 -- the answer is the position of the first free row, and none if there is none
 abbrev pub FirstFree : {R : Type 0} → List (Option R) → Option ℕ → Type 0
@@ -23,7 +23,7 @@ OneLess rows rows' (Some r) = in_use rows' + 1 ≡ in_use rows
 
 -- as many rows are in use, and one more if there was a free row at i
 abbrev pub Filled : {R : Type 0} → List (Option R) → List (Option R) → ℕ → Type 0
-Filled rows rows' i = i < length rows → in_use rows' ≡ in_use rows + one_if (vacant (row_at rows i))
+Filled rows rows' i = i < length rows → in_use rows' ≡ in_use rows + cond (is_none (row_at rows i)) 1 0
 
 module _ {R M : Type 0} (says : R → M) where
   -- the answer is the position of the first row with the key m, and none if there is no such row

@@ -1,41 +1,19 @@
 -- A table is a list of rows: `None` is a free row, `Some r` the row r in use.
 -- `says` gives what a row's key stands for, and `tells` whether two such are the same.
-use Rattle.std.specs.Prelude.{◌≡◌, ℕ, suc, ◌+◌, ◌≤◌, Bool, true, false, cond, List, [], ◌∷◌, Some, None, Option, slice_index_or, slice_set}
+use Rattle.std.specs.Prelude.{◌≡◌, ℕ, ◌≤◌, Bool, false, cond, List, [], ◌∷◌, Some, None, Option, is_some, count_by, slice_index_or, slice_set}
 
-abbrev pub occupied : {R : Type 0} → Option R → Bool
-occupied None = false
-occupied (Some r) = true
-
-abbrev pub vacant : {R : Type 0} → Option R → Bool
-vacant None = true
-vacant (Some r) = false
+-- what a row's key stands for, by the row's key and what a key stands for
+abbrev pub says : {R K M : Type 0} → (R → K) → (K → M) → R → M
+says named meaning row = meaning (named row)
 
 -- whether a row is in use and has the key m
 abbrev pub bears : {R M : Type 0} → (R → M) → (M → M → Bool) → M → Option R → Bool
 bears says tells m None = false
 bears says tells m (Some r) = tells (says r) m
 
--- one more, of a position that is there
-abbrev pub later : Option ℕ → Option ℕ
-later None = None
-later (Some i) = Some (suc i)
-
--- the position of the first element that passes the test
-abbrev pub position : {X : Type 0} → (X → Bool) → List X → Option ℕ
-position test [] = None
-position test (x ∷ xs) = cond (test x) (Some 0) (later (position test xs))
-
-abbrev pub one_if : Bool → ℕ
-one_if b = cond b 1 0
-
--- how many elements pass the test
-abbrev pub count : {X : Type 0} → (X → Bool) → List X → ℕ
-count test [] = 0
-count test (x ∷ xs) = one_if (test x) + count test xs
-
 -- how many rows are in use
 abbrev pub in_use : {R : Type 0} → List (Option R) → ℕ
-in_use rows = count occupied rows
+in_use rows = count_by is_some rows
 
 -- the row in use at a position; none if it is free or past the end
 abbrev pub row_at : {R : Type 0} → List (Option R) → ℕ → Option R
@@ -58,7 +36,7 @@ placed rows x (Some i) = slice_set rows i x
 
 -- no key stands twice
 abbrev pub Once : {R M : Type 0} → (R → M) → (M → M → Bool) → List (Option R) → Type 0
-Once {R} {M} says tells rows = (m : M) → count (bears says tells m) rows ≤ 1
+Once {R} {M} says tells rows = (m : M) → count_by (bears says tells m) rows ≤ 1
 
 -- a row with the key m stands at i
 abbrev pub Stands : {R M : Type 0} → (R → M) → List (Option R) → ℕ → M → Type 0

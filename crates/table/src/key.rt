@@ -1,8 +1,8 @@
-ghost use Rattle.std.specs.Prelude.{◌≡◌, ℕ, Bool, Decides, nat_eq};
+ghost use Rattle.std.specs.Prelude.{◌≡◌, ℕ, Bool, Decides, nat_eq, refl};
 ghost use Rattle.std.proofs.lemmas.Bool.Decides.{Decides-eqb};
 
 // What rows are looked up by.
-pub trait Key: Copy {
+pub trait Key: Copy + Eq {
     // What a key stands for.
     ghost Meaning: { Type 0 };
 
@@ -10,11 +10,11 @@ pub trait Key: Copy {
 
     ghost tells: { Meaning → Meaning → Bool };
 
-    fn same(&self, other: &Self) -> bool
-        ensures { result ≡ tells (meaning self.now) (meaning other.now) };
-
-    // Two keys are the same exactly if they stand for the same.
+    // Two meanings are told apart exactly if they differ.
     ghost exact: { (a b : Meaning) → Decides (tells a b) (a ≡ b) };
+
+    // Two keys are equal exactly if they stand for the same.
+    ghost equal: { (a b : Self) → Self.eq a b ≡ tells (meaning a) (meaning b) };
 }
 
 // A number of 16 bits, as a place's code is.
@@ -27,7 +27,5 @@ impl Key for u16 {
 
     ghost exact = { λ a b. Decides-eqb a b };
 
-    fn same(&self, other: &u16) -> bool {
-        *self == *other
-    }
+    ghost equal = { λ a b. refl };
 }

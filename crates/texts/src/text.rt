@@ -9,7 +9,7 @@ pub mod printing;
 pub struct Malformed;
 
 // A text of at most sixteen bytes, each from hex 21 to 7E; the bytes after its end are zero.
-#[derive(Clone, Copy)]
+#[derive(Clone, Copy, PartialEq, Eq)]
 pub struct Text {
     bytes: [u8; 16],
     size: usize,

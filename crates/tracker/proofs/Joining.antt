@@ -1,20 +1,15 @@
 -- Reports that join the sink one after the other.
-use Rattle.std.proofs.Common.{◌≡◌, ℕ, List, [], ◌∷◌, ◌++◌, sym, refl, ap, ◌∙◌, subst, append_assoc, arith, length-append}
+use Rattle.std.proofs.Common.{◌≡◌, ℕ, List, ◌++◌, ap, ◌∙◌, subst, append_assoc, arith, length-append}
 use Rattle.reports.specs.Fields.{Fields}
-use Rattle.tracker.specs.Wrote.{Wrote}
+use Rattle.sinks.specs.Putting.{Writes}
 
-pub wrote_as : (fs gs l : List Fields) (n : ℕ) (l' : List Fields) (n' : ℕ) → fs ≡ gs → Wrote fs l n l' n' → Wrote gs l n l' n'
-wrote_as fs gs l n l' n' e w = subst (λ (x : List Fields). Wrote x l n l' n') e w
+module _ {S : Type 0} {list_of : S → List Fields} {room_of : S → ℕ} {holds_since : S → S → Type 0} where
+  pub writes_as : {a b : List Fields} {s t : S} → a ≡ b → Writes list_of room_of holds_since a s t → Writes list_of room_of holds_since b s t
+  writes_as {a} {b} {s} {t} e w = subst (λ (fs : List Fields). Writes list_of room_of holds_since fs s t) e w
 
-pub wrote_both : (a b l : List Fields) (n : ℕ) (k : List Fields) (m : ℕ) (l' : List Fields) (n' : ℕ) → Wrote a l n k m → Wrote b k m l' n' → Wrote (a ++ b) l n l' n'
-wrote_both a b l n k m l' n' x y = record {
-  list = y.list ∙ ap (λ (z : List Fields). z ++ b) x.list ∙ append_assoc l a b;
-  room = let p = x.room in let q = y.room in simp length-append (omega arith);
-}
-
-pub wrote_none : (l : List Fields) (n : ℕ) → Wrote [] l n l n
-wrote_none l n = record { list = sym (end l); room = omega arith }
-  where
-    end : (a : List Fields) → a ++ [] ≡ a
-    end [] = refl
-    end (x ∷ a) = ap (◌∷◌ x) (end a)
+  pub writes_both : (a b : List Fields) {s m t : S} → Writes list_of room_of holds_since a s m → Writes list_of room_of holds_since b m t → Writes list_of room_of holds_since (a ++ b) s t
+  writes_both a b {s} {m} {t} x y = record {
+    list = y.list ∙ ap (λ (l : List Fields). l ++ b) x.list ∙ append_assoc (list_of s) a b;
+    room = let p = x.room in let q = y.room in simp length-append (omega arith);
+    since = λ e h. y.since e (x.since e h);
+  }

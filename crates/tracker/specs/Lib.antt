@@ -1,4 +1,3 @@
 pub mod Tracked
 pub mod Checked
 pub mod Served
-pub mod Wrote

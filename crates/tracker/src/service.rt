@@ -4,24 +4,25 @@ ghost use Rattle.model.specs.Calls.{well_read, needs_no_grant, reading_row};
 ghost use Rattle.model.specs.Rows.{row12, row14};
 ghost use Rattle.model.specs.Steps.{can_all};
 ghost use Rattle.model.specs.Wafers.{Times};
-ghost use Rattle.model.specs.Places.{Contents, Sites, station};
+ghost use Rattle.model.specs.Places.{Contents, Sites};
 ghost use Rattle.wafers.specs.Held.{held};
 ghost use Rattle.texts.specs.Meaning.{called, spelled};
 ghost use Rattle.transitions.specs.Meant.{change_meant, exit_meant};
+ghost use Rattle.transitions.specs.Stands.{Stands};
 ghost use Rattle.tracker.specs.Checked.{Passed};
 ghost use Rattle.tracker.specs.Served.{Planned, ended_by, free_to_go, read_text, service_meant, serving_steps, went};
 
+use crate::tracker::checks::id_of;
 use cabinet::refusal::Refusal;
-use texts::id::Id;
 use texts::text::Text;
 use transitions::change::{Change, reads_as};
 use transitions::exit::Exit;
-use transitions::states::is_in;
+use transitions::standing::Standing;
 use values::states::Processing;
 use wafers::wafer::Wafer;
 
 // A call on a registered wafer.
-#[derive(Clone, Copy)]
+#[derive(Clone, Copy, PartialEq, Eq)]
 pub enum Service<'a> {
     Start,
     End(u8),
@@ -36,33 +37,35 @@ pub enum Service<'a> {
 }
 
 // The rows that a service takes, in order.
-#[derive(Clone, Copy)]
+#[derive(Clone, Copy, Default)]
 pub struct Serving {
     pub first: Option<Change>,
     pub second: Option<Change>,
     pub exit: Option<Exit>,
 }
 
-fn one(change: Change) -> Option<Serving>
-    ensures { result ≡ Some (record { first = Some change; second = None; exit = None }) }
-{
-    Some(Serving {
-        first: Some(change),
-        second: None,
-        exit: None,
-    })
+// One change, and nothing after it.
+impl From<Change> for Serving {
+    ghost from_gives = { λ change r. r ≡ record { first = Some change; second = None; exit = None } };
+
+    fn from(change: Change) -> Serving {
+        Serving {
+            first: Some(change),
+            ..Serving::default()
+        }
+    }
 }
 
 // The row that ends the work with an outcome, if it is one that end takes.
 fn ending(outcome: u8) -> Option<Change>
     ensures { option_map change_meant result ≡ ended_by outcome }
 {
-    match outcome {
-        0 => Some(Change::Return),
-        2 => Some(Change::End(Processing::Processed)),
-        3 => Some(Change::End(Processing::Aborted)),
-        4 => Some(Change::End(Processing::Stopped)),
-        5 => Some(Change::End(Processing::Rejected)),
+    match Processing::try_from(outcome).ok()? {
+        Processing::NeedsProcessing => Some(Change::Return),
+        state @ (Processing::Processed
+        | Processing::Aborted
+        | Processing::Stopped
+        | Processing::Rejected) => Some(Change::End(state)),
         _ => None,
     }
 }
@@ -73,10 +76,7 @@ impl<'a> Service<'a> {
         ensures { Passed (well_read (service_meant self.entry)) Refusal.Text (λ a. spelled a ≡ read_text (service_meant self.entry)) result }
     {
         match self {
-            Service::Read(given) => match Id::new(given) {
-                Some(id) => Ok(id.text()),
-                None => Err(Refusal::Text),
-            },
+            Service::Read(given) => Ok(id_of(given)?.text()),
             _ => Ok(Text::empty()),
         }
     }
@@ -85,38 +85,33 @@ impl<'a> Service<'a> {
     pub(crate) fn wants_no_grant(self) -> bool
         ensures { result ≡ needs_no_grant (service_meant self.entry) }
     {
-        match self {
-            Service::Start | Service::Unload | Service::Correct | Service::Missing => true,
-            _ => false,
-        }
+        matches!(
+            self,
+            Service::Start | Service::Unload | Service::Correct | Service::Missing
+        )
     }
 }
 
-// The wafer after a change, if the change is open to it.
-pub(crate) fn after(change: Option<Change>, wafer: Wafer, at_station: bool) -> Option<Wafer>
-    ensures value { (at : Sites) → station at (held wafer).place ≡ at_station → option_map held result ≡ went at (called wafer.id) (held wafer) (option_map change_meant change) }
-    ensures id { IfSome result (λ w. w.id ≡ wafer.id) }
+// The wafer after a change, if the change is open to it; it stands where it stood.
+fn after(change: Option<Change>, standing: Standing) -> Option<Standing>
+    ensures value { (at : Sites) → Stands at standing → option_map (λ s. held s.wafer) result ≡ went at (called standing.wafer.id) (held standing.wafer) (option_map change_meant change) }
+    ensures id { IfSome result (λ s. s.wafer.id ≡ standing.wafer.id) }
+    ensures stands { (at : Sites) → Stands at standing → IfSome result (Stands at) }
 {
-    match change {
-        None => Some(wafer),
-        Some(change) => {
-            if change.is_open(&wafer, at_station) {
-                Some(change.made(wafer))
-            } else {
-                None
-            }
-        }
-    }
+    let Some(change) = change else {
+        return Some(standing);
+    };
+    change.is_open(&standing).then(|| Standing {
+        wafer: change.made(standing.wafer),
+        ..standing
+    })
 }
 
 // Whether the exit, where there is one, is open to the wafer.
-pub(crate) fn is_free(exit: Option<Exit>, wafer: &Wafer) -> bool
+fn is_free(exit: Option<Exit>, wafer: &Wafer) -> bool
     ensures { result ≡ free_to_go (held wafer.now) (option_map exit_meant exit) }
 {
-    match exit {
-        Some(exit) => exit.is_open(wafer),
-        None => true,
-    }
+    exit.is_none_or(|exit| exit.is_open(wafer))
 }
 
 // What becomes of a read: the ID is the wafer's, or another.
@@ -134,11 +129,7 @@ fn reading(acquired: Text, wafer: &Wafer) -> Change
 fn skipping(wafer: &Wafer) -> Option<Change>
     ensures { option_map change_meant result ≡ (if nat_eq (held wafer.now).processing 0 then Some (row14 7) else None) }
 {
-    if is_in(wafer.processing, Processing::NeedsProcessing) {
-        Some(Change::GiveUp(Processing::Skipped))
-    } else {
-        None
-    }
+    (wafer.processing == Processing::NeedsProcessing).then_some(Change::GiveUp(Processing::Skipped))
 }
 
 // A wafer that is missing becomes LOST, if its work is not complete.
@@ -158,47 +149,43 @@ impl<'a> Service<'a> {
         requires { spelled acquired ≡ read_text (service_meant self) }
         ensures { Planned (service_meant self.entry) (called wafer.now.id) (held wafer.now) result }
     {
-        match self {
-            Service::Start => one(Change::Start),
-            Service::End(outcome) => match ending(outcome) {
-                Some(change) => one(change),
-                None => None,
-            },
-            Service::Skip => one(Change::GiveUp(Processing::Skipped)),
-            Service::Read(_) => one(reading(acquired, wafer)),
-            Service::ReadFailed => one(Change::ReadFailed(acquired)),
-            Service::Proceed => one(Change::Proceed),
-            Service::Cancel => Some(Serving {
-                first: Some(Change::Cancel),
+        let serving = match self {
+            Service::Start => Serving::from(Change::Start),
+            Service::End(outcome) => Serving::from(ending(outcome)?),
+            Service::Skip => Serving::from(Change::GiveUp(Processing::Skipped)),
+            Service::Read(_) => Serving::from(reading(acquired, wafer)),
+            Service::ReadFailed => Serving::from(Change::ReadFailed(acquired)),
+            Service::Proceed => Serving::from(Change::Proceed),
+            Service::Cancel => Serving {
                 second: skipping(wafer),
-                exit: None,
-            }),
-            Service::Unload => Some(Serving {
-                first: None,
-                second: None,
+                ..Serving::from(Change::Cancel)
+            },
+            Service::Unload => Serving {
                 exit: Some(Exit::Unload),
-            }),
-            Service::Correct => one(Change::Correct),
-            Service::Missing => Some(Serving {
+                ..Serving::default()
+            },
+            Service::Correct => Serving::from(Change::Correct),
+            Service::Missing => Serving {
                 first: losing(wafer),
-                second: None,
                 exit: Some(Exit::Remove),
-            }),
-        }
+                ..Serving::default()
+            },
+        };
+        Some(serving)
     }
 }
 
 impl Serving {
     // Whether the wafer can take all the rows, one after the other.
-    pub(crate) fn is_open(&self, wafer: Wafer, at_station: bool) -> bool
-        ensures { (at : Sites) (t : Times) (c : Contents) → station at (held wafer).place ≡ at_station → c.wafer (called wafer.id) ≡ Some (held wafer) → result ≡ can_all at t c (serving_steps (called wafer.id) (held wafer).place self.now) }
+    pub(crate) fn is_open(&self, standing: Standing) -> bool
+        ensures { (at : Sites) (t : Times) (c : Contents) → Stands at standing → c.wafer (called standing.wafer.id) ≡ Some (held standing.wafer) → result ≡ can_all at t c (serving_steps (called standing.wafer.id) (held standing.wafer).place self.now) }
     {
-        let Some(first) = after(self.first, wafer, at_station) else {
+        let Some(first) = after(self.first, standing) else {
             return false;
         };
-        let Some(second) = after(self.second, first, at_station) else {
+        let Some(second) = after(self.second, first) else {
             return false;
         };
-        is_free(self.exit, &second)
+        is_free(self.exit, &second.wafer)
     }
 }

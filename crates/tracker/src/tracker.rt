@@ -2,7 +2,7 @@ use cabinet::cabinet::Cabinet;
 use values::time::Time;
 use wafers::place::Promise;
 
-mod checks;
+pub(crate) mod checks;
 mod steps;
 
 // The record of the wafers in a cabinet. A place notes the wafer that is promised to it.

@@ -1,20 +1,21 @@
 ghost use Rattle.std.specs.Prelude.{◌≡◌, Bool, ◌&&◌, ◌||◌, ◌==◌, nat_le};
-ghost use Rattle.model.specs.Places.{Sites, station};
+ghost use Rattle.model.specs.Places.{Sites};
 ghost use Rattle.model.specs.Rows.{change_number, may_change, changed, reads_as};
 ghost use Rattle.wafers.specs.Held.{held};
 ghost use Rattle.texts.specs.Meaning.{called, spelled};
 ghost use Rattle.transitions.specs.Meant.{change_meant};
+ghost use Rattle.transitions.specs.Stands.{Stands};
 ghost use Rattle.values.specs.Numbers.{processing_number, reading_number, transition_number};
 
-use crate::states::{is_at, is_in, is_read, is_steady};
-use table::key::Key;
+use crate::standing::Standing;
+use crate::states::is_steady;
 use texts::text::Text;
 use values::states::{Processing, Reading, Transport};
 use values::transition::Transition;
 use wafers::wafer::Wafer;
 
 // The rows that change states alone, with what each is given.
-#[derive(Clone, Copy)]
+#[derive(Clone, Copy, PartialEq, Eq)]
 pub enum Change {
     Correct,
     Need(Reading),
@@ -71,22 +72,23 @@ impl Change {
         }
     }
 
-    // Whether the wafer can take the row; it stands at a station or not.
-    pub fn is_open(self, wafer: &Wafer, at_station: bool) -> bool
-        ensures { (at : Sites) → station at (held wafer.now).place ≡ at_station → result ≡ may_change at (called wafer.now.id) (change_meant self) (held wafer.now) }
+    // Whether the wafer can take the row.
+    pub fn is_open(self, standing: &Standing) -> bool
+        ensures { (at : Sites) → Stands at standing.now → result ≡ may_change at (called standing.now.wafer.id) (change_meant self) (held standing.now.wafer) }
     {
+        let wafer = &standing.wafer;
         match self {
-            Change::Correct => is_at(wafer.transport, Transport::AtDestination)
-                && wafer.place.number() == wafer.source.number()
+            Change::Correct => wafer.transport == Transport::AtDestination
+                && wafer.place == wafer.source
                 && is_steady(wafer.processing),
-            Change::Need(reading) => is_in(wafer.processing, Processing::NoneYet)
+            Change::Need(reading) => wafer.processing == Processing::NoneYet
                 && is_first_reading(reading),
-            Change::Start => is_in(wafer.processing, Processing::NeedsProcessing)
-                && at_station
+            Change::Start => wafer.processing == Processing::NeedsProcessing
+                && standing.at_station
                 && is_settled(wafer.reading),
-            Change::End(state) => is_in(wafer.processing, Processing::InProcess) && is_end(state),
-            Change::Return => is_in(wafer.processing, Processing::InProcess),
-            Change::GiveUp(state) => is_in(wafer.processing, Processing::NeedsProcessing)
+            Change::End(state) => wafer.processing == Processing::InProcess && is_end(state),
+            Change::Return => wafer.processing == Processing::InProcess,
+            Change::GiveUp(state) => wafer.processing == Processing::NeedsProcessing
                 && is_loss(state),
             Change::ReadSame(acquired) => is_unread(wafer)
                 && reads_as(&acquired, wafer)
@@ -97,7 +99,7 @@ impl Change {
             Change::ReadOther(acquired) => is_unread(wafer)
                 && (!reads_as(&acquired, wafer) && !acquired.is_empty())
                 && is_steady(wafer.processing),
-            Change::Proceed | Change::Cancel => is_read(wafer.reading, Reading::WaitingForHost)
+            Change::Proceed | Change::Cancel => wafer.reading == Reading::WaitingForHost
                 && is_steady(wafer.processing),
         }
     }
@@ -107,52 +109,46 @@ impl Change {
 fn is_first_reading(reading: Reading) -> bool
     ensures { result ≡ nat_le (reading_number reading) 1 }
 {
-    match reading {
-        Reading::NotUsed | Reading::NotConfirmed => true,
-        _ => false,
-    }
+    matches!(reading, Reading::NotUsed | Reading::NotConfirmed)
 }
 
 // The ID is settled, or not to be read.
 fn is_settled(reading: Reading) -> bool
     ensures { result ≡ (reading_number reading == 0 || reading_number reading == 3) }
 {
-    is_read(reading, Reading::NotUsed) || is_read(reading, Reading::Confirmed)
+    matches!(reading, Reading::NotUsed | Reading::Confirmed)
 }
 
 // What row 12 leads to.
 fn is_end(state: Processing) -> bool
     ensures { result ≡ (nat_le 2 (processing_number state) && nat_le (processing_number state) 6) }
 {
-    match state {
+    matches!(
+        state,
         Processing::Processed
-        | Processing::Aborted
-        | Processing::Stopped
-        | Processing::Rejected
-        | Processing::Lost => true,
-        _ => false,
-    }
+            | Processing::Aborted
+            | Processing::Stopped
+            | Processing::Rejected
+            | Processing::Lost
+    )
 }
 
 // What row 14 leads to.
 fn is_loss(state: Processing) -> bool
     ensures { result ≡ (nat_le 6 (processing_number state) && nat_le (processing_number state) 7) }
 {
-    match state {
-        Processing::Lost | Processing::Skipped => true,
-        _ => false,
-    }
+    matches!(state, Processing::Lost | Processing::Skipped)
 }
 
 fn is_unread(wafer: &Wafer) -> bool
     ensures { result ≡ (reading_number wafer.now.reading == 1) }
 {
-    is_read(wafer.reading, Reading::NotConfirmed)
+    wafer.reading == Reading::NotConfirmed
 }
 
 // Whether a read ID is the wafer's.
 pub fn reads_as(acquired: &Text, wafer: &Wafer) -> bool
     ensures { result ≡ reads_as (spelled acquired.now) (called wafer.now.id) }
 {
-    acquired.same(&wafer.id.text())
+    *acquired == wafer.id.text()
 }

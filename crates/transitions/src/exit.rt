@@ -4,13 +4,13 @@ ghost use Rattle.wafers.specs.Held.{held};
 ghost use Rattle.transitions.specs.Meant.{exit_meant};
 ghost use Rattle.values.specs.Numbers.{transition_number};
 
-use crate::states::{is_at, is_complete, is_in, is_steady};
+use crate::states::{is_complete, is_steady};
 use values::states::{Processing, Transport};
 use values::transition::Transition;
 use wafers::wafer::Wafer;
 
 // The rows by which a wafer goes.
-#[derive(Clone, Copy)]
+#[derive(Clone, Copy, Debug, PartialEq, Eq)]
 pub enum Exit {
     Unload,
     Remove,
@@ -31,8 +31,8 @@ impl Exit {
         ensures { result ≡ may_leave (exit_meant self) (held wafer.now) }
     {
         match self {
-            Exit::Unload => is_at(wafer.transport, Transport::AtDestination)
-                && !is_in(wafer.processing, Processing::InProcess)
+            Exit::Unload => wafer.transport == Transport::AtDestination
+                && wafer.processing != Processing::InProcess
                 && is_steady(wafer.processing),
             Exit::Remove => is_complete(wafer.processing),
         }

@@ -8,14 +8,14 @@ ghost use Rattle.transitions.specs.Meant.{leg_meant};
 ghost use Rattle.values.specs.Numbers.{transition_number, transport_number};
 ghost use Rattle.values.specs.Values.{coded};
 
-use crate::states::{is_complete, is_in, is_steady};
+use crate::states::{is_complete, is_steady};
 use values::code::Code;
 use values::states::{Processing, Transport};
 use values::transition::Transition;
 use wafers::wafer::Wafer;
 
 // The rows by which a wafer moves.
-#[derive(Clone, Copy)]
+#[derive(Clone, Copy, Debug, PartialEq, Eq)]
 pub enum Leg {
     FromSource,
     BackToSource,
@@ -52,11 +52,10 @@ impl Leg {
     pub fn fitting(wafer: &Wafer, target: Code, is_station: bool) -> Option<Leg>
         ensures { (at : Sites) → station at (coded target) ≡ is_station → option_map leg_meant result ≡ fitting at (Some (held wafer.now)) (coded target) }
     {
-        let target = target.number();
-        let source = wafer.source.number();
-        let destination = wafer.destination.number();
+        let source = wafer.source;
+        let destination = wafer.destination;
         let complete = is_complete(wafer.processing);
-        if is_in(wafer.processing, Processing::InProcess) || !is_steady(wafer.processing) {
+        if wafer.processing == Processing::InProcess || !is_steady(wafer.processing) {
             return None;
         }
         match wafer.transport {

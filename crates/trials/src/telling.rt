@@ -1,6 +1,7 @@
-ghost use Rattle.std.specs.Prelude.{◌≡◌, List, []};
+ghost use Rattle.std.specs.Prelude.{◌≡◌, ◌≤◌, [], ◌∷◌, ◌++◌};
 ghost use Rattle.std.specs.Option.{option_map};
 ghost use Rattle.reports.specs.Fields.{shown};
+ghost use Rattle.sinks.specs.Putting.{Writes};
 ghost use Rattle.trials.specs.Told.{told_since};
 
 use reports::report::Report;
@@ -33,15 +34,20 @@ impl<S: Sink> Sink for Telling<S> {
 
 // Code that knows only a sink.
 pub fn twice<S: Sink>(sink: &mut S, report: Report)
-    ensures { (earlier : S) → S.since earlier sink.old → S.since earlier sink.new }
+    ensures since { (earlier : S) → S.since earlier sink.old → S.since earlier sink.new }
+    ensures both { 2 ≤ S.room sink.old → Writes S.list S.room S.since (shown report ∷ shown report ∷ []) sink.old sink.new }
+    ensures full { S.room sink.old ≡ 0 → (S.list sink.new ≡ S.list sink.old) × (S.room sink.new ≡ 0) }
 {
     let _ = sink.put(report);
     let _ = sink.put(report);
 }
 
-// Through that code, what the other one remembers is what the list says.
+// Through that code, what the other one remembers is what the list says. This shows what `twice` does at one kind
+// of sink: a call in its place is no plainer.
 pub fn passes_on<S: Sink>(telling: &mut Telling<S>, report: Report)
-    ensures { told_since (S.list telling.old.sink) (option_map shown telling.old.last) (S.list telling.new.sink) (option_map shown telling.new.last) }
+    ensures told { told_since (S.list telling.old.sink) (option_map shown telling.old.last) (S.list telling.new.sink) (option_map shown telling.new.last) }
+    ensures list { 2 ≤ S.room telling.old.sink → S.list telling.new.sink ≡ S.list telling.old.sink ++ shown report ∷ shown report ∷ [] }
+    ensures last { 2 ≤ S.room telling.old.sink → option_map shown telling.new.last ≡ Some (shown report) }
 {
     twice(telling, report);
 }

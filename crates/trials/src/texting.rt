@@ -1,5 +1,4 @@
 use std::test::Fail;
-use table::key::Key;
 use texts::id::Id;
 use texts::text::Text;
 
@@ -30,9 +29,9 @@ fn same_texts(rt: HostRuntime) -> Result<(), Fail> {
     let a = text(b"A1")?;
     let b = text(b"A1")?;
     let c = text(b"A12")?;
-    assert!(rt; a.same(&b));
-    assert!(rt; !a.same(&c));
-    assert!(rt; !a.same(&Text::empty()));
+    assert!(rt; a == b);
+    assert!(rt; a != c);
+    assert!(rt; a != Text::empty());
     assert_eq!(rt; c.len(), 3);
     assert!(rt; format!(in rt.alloc(); "<{c}>")?.as_str() == "<A12>");
     Ok(())

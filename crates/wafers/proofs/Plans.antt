@@ -1,7 +1,9 @@
 -- The plan of the cabinet and the place rows that it is read from.
-use Rattle.std.proofs.Common.{◌≡◌, ℕ, zero, suc, Bool, true, false, cond, ◌&&◌, eqb, List, [], ◌∷◌, set, Some, None, Option, refl, ap, ◌∙◌}
+use Rattle.std.proofs.Common.{◌≡◌, ℕ, zero, suc, ◌+◌, Bool, true, false, cond, not, ◌&&◌, eqb, ltb, List, [], ◌∷◌, set, Some, None, Option, refl, ap, ◌∙◌, is_some, position}
+use Rattle.std.specs.List.{position_or_len}
 use Rattle.std.specs.Option.{option_map}
-use Rattle.table.specs.Lookup.{bears, later, occupied, position, row_at}
+use Rattle.std.proofs.lemmas.List.{length-map}
+use Rattle.table.specs.Lookup.{bears, row_at}
 use Rattle.model.specs.Calls.{promised_to}
 use Rattle.model.specs.Places.{code_at, index, listed, sites}
 use Rattle.model.specs.Wafers.{Text}
@@ -22,18 +24,21 @@ module _ {N : Type 0} where
   plan-sites (None ∷ rows) p = plan-sites rows p
   plan-sites (Some r ∷ rows) p = either_row spot_of (eqb (coded r.code) p) r (sites (plan rows) p) (place_row rows p) (plan-sites rows p)
 
-  pub plan-listed : (rows : List (Option (Place N))) (p : ℕ) → listed (sites (plan rows)) p ≡ occupied (place_row rows p)
-  plan-listed rows p = ap occupied (plan-sites rows p) ∙ in_both (place_row rows p)
+  pub plan-listed : (rows : List (Option (Place N))) (p : ℕ) → listed (sites (plan rows)) p ≡ is_some (place_row rows p)
+  plan-listed rows p = ap is_some (plan-sites rows p) ∙ in_both (place_row rows p)
     where
-      in_both : (o : Option (Place N)) → occupied (option_map spot_of o) ≡ occupied o
+      in_both : (o : Option (Place N)) → is_some (option_map spot_of o) ≡ is_some o
       in_both None = refl
       in_both (Some r) = refl
 
   -- the position of a code, which is that of its switch
   pub plan-index : (rows : List (Option (Place N))) (p : ℕ) → index (plan rows) p ≡ position (bears (λ r. coded r.code) eqb p) rows
-  plan-index [] p = refl
-  plan-index (None ∷ rows) p = ap later (plan-index rows p)
-  plan-index (Some r ∷ rows) p = ap (λ o. cond (eqb (coded r.code) p) (Some 0) (later o)) (plan-index rows p)
+  plan-index rows p = λ i. cond (ltb (first rows i) (length-map rows (option_map spot_of) i)) (Some (first rows i)) None
+    where
+      first : (rows : List (Option (Place N))) → position_or_len (bears (λ s. s.code) eqb p) (plan rows) ≡ position_or_len (bears (λ r. coded r.code) eqb p) rows
+      first [] = refl
+      first (None ∷ rows) = ap (λ n. 1 + n) (first rows)
+      first (Some r ∷ rows) = ap (λ n. cond (not (eqb (coded r.code) p)) (1 + n) 0) (first rows)
 
   pub plan-code-at : (rows : List (Option (Place N))) (i : ℕ) → code_at (plan rows) i ≡ option_map (λ r. coded r.code) (row_at rows i)
   plan-code-at [] i = refl

@@ -5,6 +5,7 @@ ghost use Rattle.std.specs.Str.{bytes_eq};
 ghost use Rattle.texts.specs.Form.{text_of, padded};
 ghost use Rattle.texts.specs.Meaning.{spelled};
 ghost use Rattle.std.proofs.lemmas.Slice.Eq.{bytes_eq-Decides};
+ghost use Rattle.texts.specs.Equal.{same_spelled};
 
 use crate::text::{Malformed, Text};
 use table::key::Key;
@@ -72,13 +73,6 @@ impl TryFrom<&[u8]> for Text {
     }
 }
 
-// Whether two texts are the same, by length and bytes.
-fn same_text(a: &Text, b: &Text) -> bool
-    ensures { result ≡ bytes_eq (spelled a.now) (spelled b.now) }
-{
-    a.size == b.size && a.bytes == b.bytes
-}
-
 impl Key for Text {
     ghost Meaning = { List ℕ };
 
@@ -88,7 +82,5 @@ impl Key for Text {
 
     ghost exact = { λ a b. bytes_eq-Decides a b };
 
-    fn same(&self, other: &Text) -> bool {
-        same_text(self, other)
-    }
+    ghost equal = { same_spelled };
 }

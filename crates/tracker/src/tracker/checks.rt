@@ -1,8 +1,7 @@
-ghost use Rattle.std.specs.Prelude.{◌≡◌, not, ◌&&◌, [], ◌∷◌, Some};
+ghost use Rattle.std.specs.Prelude.{◌≡◌, not, ◌&&◌, [], ◌∷◌, Some, is_some};
 ghost use Rattle.model.specs.Calls.{check, granted, timely};
 ghost use Rattle.texts.specs.Form.{named};
 ghost use Rattle.texts.specs.Meaning.{called};
-ghost use Rattle.table.specs.Lookup.{occupied};
 ghost use Rattle.values.specs.Values.{moment};
 ghost use Rattle.wafers.specs.Held.{held};
 ghost use Rattle.tracker.specs.Tracked.{plan_of, tracked};
@@ -26,24 +25,22 @@ impl<'a> Tracker<'a> {
     pub(crate) fn time_of(&self, given: u64) -> Result<Time, Refusal>
         ensures { Passed (timely (tracked self.now) given) Refusal.Time (λ t. moment t ≡ given) result }
     {
-        let Some(time) = Time::new(given) else {
-            return Err(Refusal::Time);
-        };
-        if time.millis() < self.latest.millis() {
+        let time = Time::new(given).ok_or(Refusal::Time)?;
+        if time < self.latest {
             return Err(Refusal::Time);
         }
         Ok(time)
     }
 
     pub(crate) fn wafer_of(&self, id: &Id) -> Result<Wafer, Refusal>
-        ensures { Passed (occupied ((tracked self.now).contents.wafer (called id.now))) Refusal.NotRegistered (λ w. ((tracked self.now).contents.wafer (called id.now) ≡ Some (held w)) × (called w.id ≡ called id.now)) result }
+        ensures { Passed (is_some ((tracked self.now).contents.wafer (called id.now))) Refusal.NotRegistered (λ w. ((tracked self.now).contents.wafer (called id.now) ≡ Some (held w)) × (called w.id ≡ called id.now)) result }
     {
         self.cabinet.wafer(id).ok_or(Refusal::NotRegistered)
     }
 
     // Time, ID and wafer of a call on a registered wafer.
     pub(crate) fn known(&self, id: &[u8], time: u64) -> Result<(Wafer, Time), Refusal>
-        ensures { Passes (check 3 (timely (tracked self.now) time) ∷ (check 4 (named id.now) ∷ (check 6 (occupied ((tracked self.now).contents.wafer id.now)) ∷ []))) (λ x. ((tracked self.now).contents.wafer id.now ≡ Some (held x.0)) × (called x.0.id ≡ id.now) × (moment x.1 ≡ time)) result }
+        ensures { Passes (check 3 (timely (tracked self.now) time) ∷ (check 4 (named id.now) ∷ (check 6 (is_some ((tracked self.now).contents.wafer id.now)) ∷ []))) (λ x. ((tracked self.now).contents.wafer id.now ≡ Some (held x.0)) × (called x.0.id ≡ id.now) × (moment x.1 ≡ time)) result }
     {
         let time = self.time_of(time)?;
         let id = id_of(id)?;

@@ -7,8 +7,8 @@ ghost use Rattle.transitions.specs.Meant.{change_meant, exit_meant};
 ghost use Rattle.values.specs.Values.{moment};
 ghost use Rattle.cabinet.specs.Views.{with_contents};
 ghost use Rattle.wafers.specs.Held.{held};
+ghost use Rattle.sinks.specs.Putting.{Writes};
 ghost use Rattle.tracker.specs.Tracked.{tables, tracked};
-ghost use Rattle.tracker.specs.Wrote.{Wrote};
 
 use crate::tracker::Tracker;
 use crate::writing::{tell, write};
@@ -32,8 +32,7 @@ impl<'a> Tracker<'a> {
         requires room { 1 ≤ S.room sink.old }
         ensures tables { tables self.new ≡ with_contents (effect (at_time (moment time)) (called wafer.id) (by_change (change_meant change)) (tables self.old).contents) (tables self.old) }
         ensures latest { self.new.latest ≡ self.old.latest }
-        ensures wrote { Wrote (substrate_report (change_number (change_meant change)) (at_time (moment time)) (called wafer.id) (changed (change_meant change) (held wafer)) ∷ []) (S.list sink.old) (S.room sink.old) (S.list sink.new) (S.room sink.new) }
-        ensures since { (earlier : S) → S.since earlier sink.old → S.since earlier sink.new }
+        ensures wrote { Writes S.list S.room S.since (substrate_report (change_number (change_meant change)) (at_time (moment time)) (called wafer.id) (changed (change_meant change) (held wafer)) ∷ []) sink.old sink.new }
         ensures wafer { held result ≡ changed (change_meant change) (held wafer) }
         ensures id { result.id ≡ wafer.id }
     {
@@ -43,7 +42,8 @@ impl<'a> Tracker<'a> {
         changed
     }
 
-    // The wafer goes; its place is vacant, and both are reported.
+    // The wafer goes; its place is vacant, and both are reported. The flag is the place's silence switch: an Option
+    // is no plainer.
     pub(crate) fn take_exit<S: Sink>(
         &mut self,
         sink: &mut S,
@@ -56,8 +56,7 @@ impl<'a> Tracker<'a> {
         requires room { (if quiet then 0 else 1) + 1 ≤ S.room sink.old }
         ensures tables { tables self.new ≡ with_contents (effect (at_time (moment time)) (called wafer.id) (by_exit (exit_meant exit)) (tables self.old).contents) (tables self.old) }
         ensures latest { self.new.latest ≡ self.old.latest }
-        ensures wrote { Wrote ((if quiet then [] else location_report (at_time (moment time)) (held wafer).place None ∷ []) ++ (substrate_report (exit_number (exit_meant exit)) (at_time (moment time)) (called wafer.id) (held wafer) ∷ [])) (S.list sink.old) (S.room sink.old) (S.list sink.new) (S.room sink.new) }
-        ensures since { (earlier : S) → S.since earlier sink.old → S.since earlier sink.new }
+        ensures wrote { Writes S.list S.room S.since ((if quiet then [] else location_report (at_time (moment time)) (held wafer).place None ∷ []) ++ (substrate_report (exit_number (exit_meant exit)) (at_time (moment time)) (called wafer.id) (held wafer) ∷ [])) sink.old sink.new }
     {
         self.cabinet.remove(&wafer.id);
         self.cabinet.vacate(wafer.place);

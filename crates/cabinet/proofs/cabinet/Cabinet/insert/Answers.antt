@@ -1,6 +1,7 @@
 use Rattle.std.proofs.Common.{◌≡◌, true, false, is_some, None, sym, refl, ap, ◌∙◌}
 use Rattle.std.specs.Str.{bytes_eq}
-use Rattle.table.specs.Lookup.{bears, position}
+use Rattle.table.specs.Lookup.{bears}
+use Rattle.std.specs.List.{position}
 use Rattle.texts.specs.Meaning.{called, spelled}
 use Rattle.wafers.specs.Held.{held}
 use Rattle.wafers.specs.Views.{wafer_row}

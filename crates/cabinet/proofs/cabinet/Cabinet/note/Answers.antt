@@ -1,7 +1,8 @@
 use Rattle.std.proofs.Common.{◌≡◌, ℕ, eqb, Some, None, sym, refl, ap, ◌∙◌, subst}
 use Rattle.std.proofs.lemmas.Bool.{cond-false}
 use Rattle.table.specs.Laws.{Others}
-use Rattle.table.specs.Lookup.{bears, position}
+use Rattle.table.specs.Lookup.{bears}
+use Rattle.std.specs.List.{position}
 use Rattle.model.specs.Places.{sites, listed}
 use Rattle.values.specs.Values.{coded}
 use Rattle.wafers.specs.declared.place.Place.{Place}

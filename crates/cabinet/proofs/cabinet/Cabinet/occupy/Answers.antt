@@ -2,7 +2,8 @@ use Rattle.std.proofs.Common.{◌≡◌, ℕ, eqb, Some, None, sym, refl, ap, �
 use Rattle.std.specs.Option.{option_map}
 use Rattle.std.proofs.lemmas.Bool.{cond-false}
 use Rattle.table.specs.Laws.{Others}
-use Rattle.table.specs.Lookup.{bears, position}
+use Rattle.table.specs.Lookup.{bears}
+use Rattle.std.specs.List.{position}
 use Rattle.model.specs.Places.{sites, listed}
 use Rattle.texts.specs.Meaning.{called}
 use Rattle.values.specs.Values.{coded}

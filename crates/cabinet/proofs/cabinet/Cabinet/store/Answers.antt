@@ -1,6 +1,7 @@
 use Rattle.std.proofs.Common.{sym, refl, ap, ◌∙◌, subst}
 use Rattle.std.specs.Str.{bytes_eq}
-use Rattle.table.specs.Lookup.{bears, position}
+use Rattle.table.specs.Lookup.{bears}
+use Rattle.std.specs.List.{position}
 use Rattle.table.specs.Laws.{Others}
 use Rattle.texts.specs.Meaning.{called, spelled}
 use Rattle.wafers.specs.Views.{wafer_row}

@@ -1,8 +1,11 @@
-use Rattle.table.proofs.Calls.{inserted}
+use Rattle.table.proofs.Changes.{inserted_once, inserted_others, inserted_own}
 use Rattle.table.proofs.rows.Table.insert.Goals as goal
 
-pub returns : goal.returns
-returns g c =
-    let says = λ (row : g.row.R.Denot). g.R.Key.Key.meaning (g.R.Row.named row) in
-    let laws = inserted says g.R.Key.Key.tells g.met.R.Key.Key.exact c.args.self.now.rows.now c.args.row c.fill_free.result c.fill_free.new.self.rows.now c.fill_free.ensures.value c.fill_free.ensures.rows in
-    record { value = c.fill_free.ensures.value; rows = c.fill_free.ensures.rows; lender = c.fill_free.ensures.lender; own = laws.0; others = laws.1; used = laws.2; once = laws.3 }
+pub returns-clause-own : goal.returns-clause-own
+returns-clause-own g c = rw c.write.ensures.rows (λ _. inserted_own _ _ g.R.Key.Key.exact c.args.self.now.rows.now c.in_ok-free.free c.args.row c.in_ok-free.ensures.exact.0)
+
+pub returns-clause-others : goal.returns-clause-others
+returns-clause-others g c = rw c.write.ensures.rows (inserted_others _ _ g.R.Key.Key.exact c.args.self.now.rows.now c.in_ok-free.free c.args.row c.in_ok-free.ensures.exact.1)
+
+pub returns-clause-once : goal.returns-clause-once
+returns-clause-once g c = rw c.write.ensures.rows (inserted_once _ _ g.R.Key.Key.exact c.args.self.now.rows.now c.in_ok-free.free c.args.row)

@@ -1,9 +1,11 @@
-use Rattle.table.proofs.Calls.{removed}
+use Rattle.table.proofs.Changes.{vacate_once, vacate_others, vacate_own}
 use Rattle.table.proofs.rows.Table.remove.Goals as goal
 
-pub returns : goal.returns
-returns g c =
-    let says = λ (row : g.row.R.Denot). g.R.Key.Key.meaning (g.R.Row.named row) in
-    let m = g.R.Key.Key.meaning c.args.key.now in
-    let laws = removed says g.R.Key.Key.tells g.met.R.Key.Key.exact c.args.self.now.rows.now m c.free_found.result c.free_found.new.self.rows.now c.free_found.ensures.value c.free_found.ensures.rows in
-    record { value = c.free_found.ensures.value; rows = c.free_found.ensures.rows; lender = c.free_found.ensures.lender; own = laws.0; others = laws.1; used = laws.2; once = laws.3 }
+pub returns-clause-own : goal.returns-clause-own
+returns-clause-own g c = rw c.write.ensures.rows (vacate_own _ _ g.R.Key.Key.exact c.args.self.now.rows.now c.in_ok-found.found _ c.in_ok-found.ensures.exact.0)
+
+pub returns-clause-others : goal.returns-clause-others
+returns-clause-others g c = rw c.write.ensures.rows (vacate_others _ _ g.R.Key.Key.exact c.args.self.now.rows.now c.in_ok-found.found _ c.in_ok-found.ensures.exact.0)
+
+pub returns-clause-once : goal.returns-clause-once
+returns-clause-once g c = rw c.write.ensures.rows (vacate_once _ _ g.R.Key.Key.exact c.args.self.now.rows.now c.in_ok-found.found)

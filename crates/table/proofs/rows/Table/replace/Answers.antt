@@ -1,9 +1,11 @@
-use Rattle.table.proofs.Calls.{replaced}
+use Rattle.table.proofs.Changes.{put_once, put_others, replaced_own}
 use Rattle.table.proofs.rows.Table.replace.Goals as goal
 
-pub returns : goal.returns
-returns g c =
-    let says = λ (row : g.row.R.Denot). g.R.Key.Key.meaning (g.R.Row.named row) in
-    let m = g.R.Key.Key.meaning c.args.key.now in
-    let laws = replaced says g.R.Key.Key.tells g.met.R.Key.Key.exact c.args.self.now.rows.now m c.args.row c.fill_found.result c.fill_found.new.self.rows.now c.fill_found.ensures.value c.fill_found.ensures.rows in
-    record { value = c.fill_found.ensures.value; rows = c.fill_found.ensures.rows; lender = c.fill_found.ensures.lender; own = laws.0; others = laws.1; used = laws.2; once = laws.3 }
+pub returns-clause-own : goal.returns-clause-own
+returns-clause-own g c = rw c.write.ensures.rows (λ _. replaced_own _ _ g.R.Key.Key.exact c.args.self.now.rows.now c.in_ok-found.found c.args.row _ c.in_ok-found.ensures.exact)
+
+pub returns-clause-others : goal.returns-clause-others
+returns-clause-others g c = rw c.write.ensures.rows (λ e. put_others _ _ g.R.Key.Key.exact c.args.self.now.rows.now c.in_ok-found.found c.args.row _ e c.in_ok-found.ensures.exact.0)
+
+pub returns-clause-once : goal.returns-clause-once
+returns-clause-once g c = rw c.write.ensures.rows (λ e. put_once _ _ g.R.Key.Key.exact c.args.self.now.rows.now c.in_ok-found.found c.args.row _ e c.in_ok-found.ensures.exact.0)
