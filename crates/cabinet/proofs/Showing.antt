@@ -4,6 +4,8 @@ use Rattle.std.specs.Option.{option_map, option_flatten}
 use Rattle.std.specs.Str.{bytes_eq}
 use Rattle.std.proofs.lemmas.Bool.{false≢true, cond-true, cond-false, and_left, and_right, and_from, lt-ltb, le-ltb, not_from_true, eqb-true}
 use Rattle.std.proofs.lemmas.List.Sums.{count_by-le-length}
+use Rattle.std.proofs.lemmas.Bool.Decides.{Decides-eqb}
+use Rattle.std.proofs.lemmas.Slice.Eq.{bytes_eq-Decides}
 use Rattle.table.specs.Lookup.{bears, in_use, placed, row_at, row_found}
 use Rattle.table.specs.Laws.{OneMore, OneLess, Others}
 use Rattle.table.proofs.Places.{length-placed}
@@ -18,7 +20,7 @@ use Rattle.wafers.specs.declared.place.Place.{Place}
 use Rattle.wafers.specs.Held.{held}
 use Rattle.wafers.specs.Spots.{plan, spot_of, occupant_of}
 use Rattle.wafers.specs.Views.{wafer_row, place_row, wafers_of, occupants_of}
-use Rattle.wafers.proofs.Views.{text_put, code_put, code-kept}
+use Rattle.wafers.proofs.Views.{shown_kept, shown_put}
 use Rattle.wafers.proofs.Plans.{plan-set, plan-listed}
 use Rattle.cabinet.specs.Views.{View, notes_of, view_of, stored, inserted, removed, occupied_by, noted}
 
@@ -48,7 +50,7 @@ module _ {N : Type 0} where
       ap (λ ws. view_of ws places) e ∙ sym (cond-false (is_some (wafers_of wafers (id_of w))) _ _ (registered-at wafers (id_of w) ∙ ap is_some (sym p)))
   stored_shows wafers wafers' places w (Some i) p e u own others =
       wafers_path (wafers_of wafers') (put_text (id_of w) (Some (held w)) (wafers_of wafers)) _ _ _ _ places
-      (text_put (option_map held) (wafer_row wafers') (wafer_row wafers) (id_of w) others (Some w) (own refl)) u (ap length e ∙ length-set wafers i (Some w))
+      (shown_put bytes_eq bytes_eq-Decides (option_map held) (wafer_row wafers') (wafer_row wafers) (id_of w) others (Some w) (own refl)) u (ap length e ∙ length-set wafers i (Some w))
       ∙ sym (cond-true (is_some (wafers_of wafers (id_of w))) _ _ (registered-at wafers (id_of w) ∙ ap is_some (sym p)))
 
   -- a wafer that is registered is not inserted
@@ -85,7 +87,7 @@ module _ {N : Type 0} where
           let most : in_use wafers ≤ length wafers = count_by-le-length is_some wafers in
           let open_row : in_use wafers ≡ length wafers → ⊥ = λ x. absurd (some_not_none i (p ∙ (full-position wafers).1 x)) in
           wafers_path (wafers_of wafers') (put_text (id_of w) (Some (held w)) (wafers_of wafers)) (in_use wafers') (suc (in_use wafers)) _ _ places
-          (text_put (option_map held) (wafer_row wafers') (wafer_row wafers) (id_of w) others (Some w) (own refl (none (wafer_row wafers (id_of w)) absent))) (u ∙ omega arith) (ap length e ∙ length-set wafers i (Some w))
+          (shown_put bytes_eq bytes_eq-Decides (option_map held) (wafer_row wafers') (wafer_row wafers) (id_of w) others (Some w) (own refl (none (wafer_row wafers (id_of w)) absent))) (u ∙ omega arith) (ap length e ∙ length-set wafers i (Some w))
           ∙ sym (cond-true (is_none (wafers_of wafers (id_of w)) && ltb (in_use wafers) (length wafers)) _ _ (and_from _ _ unknown (lt-ltb (in_use wafers) (length wafers) (omega (arith, most, open_row)))))
         where
           some_not_none : (i : ℕ) → Some i ≡ None → ⊥
@@ -98,7 +100,7 @@ module _ {N : Type 0} where
       ap (λ ws. view_of ws places) u ∙ sym (cond-false (is_some (wafers_of wafers k)) _ _ (occupied_mapped held (wafer_row wafers k) ∙ ap is_some (sym p)))
   removed_shows wafers wafers' places k (Some w) at p e u own others =
       wafers_path (wafers_of wafers') (put_text k None (wafers_of wafers)) (in_use wafers') (pred (in_use wafers)) _ _ places
-      (text_put (option_map held) (wafer_row wafers') (wafer_row wafers) k others None own) (less (in_use wafers') (in_use wafers) u) (ap length e ∙ length-placed wafers None at)
+      (shown_put bytes_eq bytes_eq-Decides (option_map held) (wafer_row wafers') (wafer_row wafers) k others None own) (less (in_use wafers') (in_use wafers) u) (ap length e ∙ length-placed wafers None at)
       ∙ sym (cond-true (is_some (wafers_of wafers k)) _ _ (occupied_mapped held (wafer_row wafers k) ∙ ap is_some (sym p)))
     where
       less : (a b : ℕ) → a + 1 ≡ b → a ≡ pred b
@@ -136,9 +138,9 @@ module _ {N : Type 0} where
       → view_of wafers places' ≡ occupied_by p o (view_of wafers places)
   occupied_shows wafers places places' p old new r o a b e own others s occ n =
       places_path wafers (occupants_of places') (put_code p o (occupants_of places)) (plan places') (plan places) (notes_of places') (notes_of places)
-      (code_put (λ q. option_flatten (option_map occupant_of q)) (place_row places') (place_row places) p others (Some new) own ∙ ap (λ x. put_code p x (occupants_of places)) occ)
+      (shown_put eqb Decides-eqb (λ q. option_flatten (option_map occupant_of q)) (place_row places') (place_row places) p others (Some new) own ∙ ap (λ x. put_code p x (occupants_of places)) occ)
       (plan-kept places places' p old new r a b e s)
-      (code-kept (option_map (λ q. q.note)) (place_row places') (place_row places) p others (ap (option_map (λ q. q.note)) own ∙ ap Some n ∙ ap (option_map (λ q. q.note)) (sym b)))
+      (shown_kept eqb Decides-eqb (option_map (λ q. q.note)) (place_row places') (place_row places) p others (ap (option_map (λ q. q.note)) own ∙ ap Some n ∙ ap (option_map (λ q. q.note)) (sym b)))
       ∙ sym (cond-true (listed (sites (plan places)) p) _ _ (is_listed places p old b))
 
   pub noted_shows : (wafers : List (Option Wafer)) (places places' : List (Option (Place N))) (p : ℕ) (old new : Place N) (r : Option ℕ) (n : N)
@@ -148,9 +150,9 @@ module _ {N : Type 0} where
       → view_of wafers places' ≡ noted p n (view_of wafers places)
   noted_shows wafers places places' p old new r n a b e own others s occ m =
       places_path wafers (occupants_of places') (occupants_of places) (plan places') (plan places) (notes_of places') (put_code p (Some n) (notes_of places))
-      (code-kept (λ q. option_flatten (option_map occupant_of q)) (place_row places') (place_row places) p others (ap (λ q. option_flatten (option_map occupant_of q)) own ∙ occ ∙ ap (λ q. option_flatten (option_map occupant_of q)) (sym b)))
+      (shown_kept eqb Decides-eqb (λ q. option_flatten (option_map occupant_of q)) (place_row places') (place_row places) p others (ap (λ q. option_flatten (option_map occupant_of q)) own ∙ occ ∙ ap (λ q. option_flatten (option_map occupant_of q)) (sym b)))
       (plan-kept places places' p old new r a b e s)
-      (code_put (option_map (λ q. q.note)) (place_row places') (place_row places) p others (Some new) own ∙ ap (λ x. put_code p (Some x) (notes_of places)) m)
+      (shown_put eqb Decides-eqb (option_map (λ q. q.note)) (place_row places') (place_row places) p others (Some new) own ∙ ap (λ x. put_code p (Some x) (notes_of places)) m)
       ∙ sym (cond-true (listed (sites (plan places)) p) _ _ (is_listed places p old b))
 
   -- a row found by its code has the code, and so has one in its place
