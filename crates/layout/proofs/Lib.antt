@@ -1,6 +1,7 @@
 pub mod Cuts
 pub mod Parts
-pub mod Windows
+pub mod Spelling
+pub mod Calls
 pub mod Held
 pub mod Stripping
 pub mod Reading

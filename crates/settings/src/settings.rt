@@ -6,6 +6,7 @@ pub mod switching;
 #[derive(Drop)]
 pub struct Settings {
     reader: bool,
+    // An array and a count: settings have fixed memory, and there is no heap.
     silenced: [bool; 128],
     count: usize,
     ghost some: { 1 ≤ count },

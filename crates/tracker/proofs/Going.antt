@@ -2,24 +2,11 @@
 use Rattle.std.proofs.Common.{◌≡◌, ℕ, Bool, true, false, cond, ◌&&◌, List, ◌++◌, Some, None, Option, sym, refl, ap, ◌∙◌}
 use Rattle.model.specs.Wafers.{Text, Times, Wafer}
 use Rattle.model.specs.Places.{Sites, Contents}
-use Rattle.model.specs.Rows.{Change as Row, row8, row10, row11, row12, row13, row14, row17, row18, row19, row20, row21, Exit as Gone, Row as Any, change, leave, can, can_from, may_change, changed, after, effect}
+use Rattle.model.specs.Rows.{Change as Row, Exit as Gone, Row as Any, change, leave, can, can_from, may_change, changed, after, effect}
 use Rattle.model.specs.Steps.{Step, can_all, perform}
-use Rattle.model.proofs.Basics.{some_none, some_same}
+use Rattle.model.proofs.Basics.{some_none}
 use Rattle.model.proofs.Performing.{own_wafer}
 use Rattle.tracker.specs.Served.{went, free_to_go, change_steps, exit_steps}
-
-pub changed-place : (g : Row) (w : Wafer) → (changed g w).place ≡ w.place
-changed-place row8 w = refl
-changed-place (row10 r) w = refl
-changed-place row11 w = refl
-changed-place (row12 p) w = refl
-changed-place row13 w = refl
-changed-place (row14 p) w = refl
-changed-place (row17 a) w = refl
-changed-place (row18 a) w = refl
-changed-place (row19 a) w = refl
-changed-place row20 w = refl
-changed-place row21 w = refl
 
 and_end : (b : Bool) → (b && true) ≡ b
 and_end true = refl
@@ -31,14 +18,6 @@ module _ (at : Sites) (t : Times) (id : Text) where
 
   pub own_after : (c : Contents) (w : Wafer) (r : Any) → c.wafer id ≡ Some w → (effect t id r c).wafer id ≡ after t (Some w) r
   own_after c w r e = own_wafer t id r c ∙ ap (λ (o : Option Wafer). after t o r) e
-
-  pub went-place : (w v : Wafer) (g : Option Row) → went at id w g ≡ Some v → v.place ≡ w.place
-  went-place w v None e = ap (λ (x : Wafer). x.place) (sym (some_same w v e))
-  went-place w v (Some g) e = go (may_change at id g w) e
-    where
-      go : (b : Bool) → cond b (Some (changed g w)) None ≡ Some v → v.place ≡ w.place
-      go true e = ap (λ (x : Wafer). x.place) (sym (some_same (changed g w) v e)) ∙ changed-place g w
-      go false e = some_none _ v (sym e)
 
   -- a change that is not open
   pub cannot : (c : Contents) (w : Wafer) (g : Option Row) (rest : List Step) → c.wafer id ≡ Some w → went at id w g ≡ None → can_all at t c (change_steps id g ++ rest) ≡ false

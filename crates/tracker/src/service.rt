@@ -4,10 +4,11 @@ ghost use Rattle.model.specs.Calls.{well_read, needs_no_grant, reading_row};
 ghost use Rattle.model.specs.Rows.{row12, row14};
 ghost use Rattle.model.specs.Steps.{can_all};
 ghost use Rattle.model.specs.Wafers.{Times};
-ghost use Rattle.model.specs.Places.{Contents, Sites, station};
+ghost use Rattle.model.specs.Places.{Contents, Sites};
 ghost use Rattle.wafers.specs.Held.{held};
 ghost use Rattle.texts.specs.Meaning.{called, spelled};
 ghost use Rattle.transitions.specs.Meant.{change_meant, exit_meant};
+ghost use Rattle.transitions.specs.Stands.{Stands};
 ghost use Rattle.tracker.specs.Checked.{Passed};
 ghost use Rattle.tracker.specs.Served.{Planned, ended_by, free_to_go, read_text, service_meant, serving_steps, went};
 
@@ -16,11 +17,12 @@ use cabinet::refusal::Refusal;
 use texts::text::Text;
 use transitions::change::{Change, reads_as};
 use transitions::exit::Exit;
+use transitions::standing::Standing;
 use values::states::Processing;
 use wafers::wafer::Wafer;
 
 // A call on a registered wafer.
-#[derive(Clone, Copy)]
+#[derive(Clone, Copy, PartialEq, Eq)]
 pub enum Service<'a> {
     Start,
     End(u8),
@@ -90,17 +92,19 @@ impl<'a> Service<'a> {
     }
 }
 
-// The wafer after a change, if the change is open to it.
-fn after(change: Option<Change>, wafer: Wafer, at_station: bool) -> Option<Wafer>
-    ensures value { (at : Sites) → station at (held wafer).place ≡ at_station → option_map held result ≡ went at (called wafer.id) (held wafer) (option_map change_meant change) }
-    ensures id { IfSome result (λ w. w.id ≡ wafer.id) }
+// The wafer after a change, if the change is open to it; it stands where it stood.
+fn after(change: Option<Change>, standing: Standing) -> Option<Standing>
+    ensures value { (at : Sites) → Stands at standing → option_map (λ s. held s.wafer) result ≡ went at (called standing.wafer.id) (held standing.wafer) (option_map change_meant change) }
+    ensures id { IfSome result (λ s. s.wafer.id ≡ standing.wafer.id) }
+    ensures stands { (at : Sites) → Stands at standing → IfSome result (Stands at) }
 {
-    match change {
-        None => Some(wafer),
-        Some(change) => change
-            .is_open(&wafer, at_station)
-            .then(|| change.made(wafer)),
-    }
+    let Some(change) = change else {
+        return Some(standing);
+    };
+    change.is_open(&standing).then(|| Standing {
+        wafer: change.made(standing.wafer),
+        ..standing
+    })
 }
 
 // Whether the exit, where there is one, is open to the wafer.
@@ -173,15 +177,15 @@ impl<'a> Service<'a> {
 
 impl Serving {
     // Whether the wafer can take all the rows, one after the other.
-    pub(crate) fn is_open(&self, wafer: Wafer, at_station: bool) -> bool
-        ensures { (at : Sites) (t : Times) (c : Contents) → station at (held wafer).place ≡ at_station → c.wafer (called wafer.id) ≡ Some (held wafer) → result ≡ can_all at t c (serving_steps (called wafer.id) (held wafer).place self.now) }
+    pub(crate) fn is_open(&self, standing: Standing) -> bool
+        ensures { (at : Sites) (t : Times) (c : Contents) → Stands at standing → c.wafer (called standing.wafer.id) ≡ Some (held standing.wafer) → result ≡ can_all at t c (serving_steps (called standing.wafer.id) (held standing.wafer).place self.now) }
     {
-        let Some(first) = after(self.first, wafer, at_station) else {
+        let Some(first) = after(self.first, standing) else {
             return false;
         };
-        let Some(second) = after(self.second, first, at_station) else {
+        let Some(second) = after(self.second, first) else {
             return false;
         };
-        is_free(self.exit, &second)
+        is_free(self.exit, &second.wafer)
     }
 }

@@ -1,11 +1,13 @@
 ghost use Rattle.std.specs.Prelude.{◌≡◌, Bool, ◌&&◌, ◌||◌, ◌==◌, nat_le};
-ghost use Rattle.model.specs.Places.{Sites, station};
+ghost use Rattle.model.specs.Places.{Sites};
 ghost use Rattle.model.specs.Rows.{change_number, may_change, changed, reads_as};
 ghost use Rattle.wafers.specs.Held.{held};
 ghost use Rattle.texts.specs.Meaning.{called, spelled};
 ghost use Rattle.transitions.specs.Meant.{change_meant};
+ghost use Rattle.transitions.specs.Stands.{Stands};
 ghost use Rattle.values.specs.Numbers.{processing_number, reading_number, transition_number};
 
+use crate::standing::Standing;
 use crate::states::is_steady;
 use texts::text::Text;
 use values::states::{Processing, Reading, Transport};
@@ -13,7 +15,7 @@ use values::transition::Transition;
 use wafers::wafer::Wafer;
 
 // The rows that change states alone, with what each is given.
-#[derive(Clone, Copy)]
+#[derive(Clone, Copy, PartialEq, Eq)]
 pub enum Change {
     Correct,
     Need(Reading),
@@ -70,10 +72,11 @@ impl Change {
         }
     }
 
-    // Whether the wafer can take the row; it stands at a station or not.
-    pub fn is_open(self, wafer: &Wafer, at_station: bool) -> bool
-        ensures { (at : Sites) → station at (held wafer.now).place ≡ at_station → result ≡ may_change at (called wafer.now.id) (change_meant self) (held wafer.now) }
+    // Whether the wafer can take the row.
+    pub fn is_open(self, standing: &Standing) -> bool
+        ensures { (at : Sites) → Stands at standing.now → result ≡ may_change at (called standing.now.wafer.id) (change_meant self) (held standing.now.wafer) }
     {
+        let wafer = &standing.wafer;
         match self {
             Change::Correct => wafer.transport == Transport::AtDestination
                 && wafer.place.number() == wafer.source.number()
@@ -81,7 +84,7 @@ impl Change {
             Change::Need(reading) => wafer.processing == Processing::NoneYet
                 && is_first_reading(reading),
             Change::Start => wafer.processing == Processing::NeedsProcessing
-                && at_station
+                && standing.at_station
                 && is_settled(wafer.reading),
             Change::End(state) => wafer.processing == Processing::InProcess && is_end(state),
             Change::Return => wafer.processing == Processing::InProcess,

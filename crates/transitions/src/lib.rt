@@ -3,4 +3,5 @@
 pub mod change;
 pub mod exit;
 pub mod leg;
+pub mod standing;
 pub mod states;

@@ -42,7 +42,8 @@ pub fn twice<S: Sink>(sink: &mut S, report: Report)
     let _ = sink.put(report);
 }
 
-// Through that code, what the other one remembers is what the list says.
+// Through that code, what the other one remembers is what the list says. This shows what `twice` does at one kind
+// of sink: a call in its place is no plainer.
 pub fn passes_on<S: Sink>(telling: &mut Telling<S>, report: Report)
     ensures told { told_since (S.list telling.old.sink) (option_map shown telling.old.last) (S.list telling.new.sink) (option_map shown telling.new.last) }
     ensures list { 2 ≤ S.room telling.old.sink → S.list telling.new.sink ≡ S.list telling.old.sink ++ shown report ∷ shown report ∷ [] }

@@ -11,6 +11,7 @@ use settings::visit::Visit;
 fn reach(settings: &Settings, position: usize) -> Result<(), NoSuchPosition>
     ensures { result ≡ switch_there position (switches settings.now) }
 {
+    // The test is all that is asked, and no index follows it: then_some and ok_or are no plainer.
     if position < settings.count() {
         Ok(())
     } else {

@@ -65,6 +65,7 @@ impl Settings {
         ensures switches { switches self.new ≡ silenced_at position on (switches self.old) }
         ensures refused { (switches self.old).count ≤ position → self.new ≡ self.old }
     {
+        // An index: with get_mut the proof did not close, since it does not say what the slice is after it.
         if position >= self.count {
             return Err(NoSuchPosition);
         }

@@ -25,13 +25,10 @@ impl<'a> Tracker<'a> {
     pub(crate) fn time_of(&self, given: u64) -> Result<Time, Refusal>
         ensures { Passed (timely (tracked self.now) given) Refusal.Time (λ t. moment t ≡ given) result }
     {
-        let Some(time) = Time::new(given) else {
-            return Err(Refusal::Time);
-        };
-        if time.millis() < self.latest.millis() {
-            return Err(Refusal::Time);
+        match Time::new(given) {
+            Some(time) if time.millis() >= self.latest.millis() => Ok(time),
+            _ => Err(Refusal::Time),
         }
-        Ok(time)
     }
 
     pub(crate) fn wafer_of(&self, id: &Id) -> Result<Wafer, Refusal>

@@ -42,7 +42,8 @@ impl<'a> Tracker<'a> {
         changed
     }
 
-    // The wafer goes; its place is vacant, and both are reported.
+    // The wafer goes; its place is vacant, and both are reported. The flag is the place's silence switch: an Option
+    // is no plainer.
     pub(crate) fn take_exit<S: Sink>(
         &mut self,
         sink: &mut S,
