@@ -6,7 +6,7 @@ use values::time::Time;
 use values::transition::Transition;
 
 // A wafer took a row of the table of transitions.
-#[derive(Clone, Copy)]
+#[derive(Clone, Copy, Debug, PartialEq, Eq)]
 pub struct Substrate {
     pub transition: Transition,
     pub time: Time,
@@ -21,14 +21,14 @@ pub struct Substrate {
 }
 
 // A place became occupied, by the wafer named, or unoccupied.
-#[derive(Clone, Copy)]
+#[derive(Clone, Copy, Debug, PartialEq, Eq)]
 pub struct Location {
     pub time: Time,
     pub place: Code,
     pub occupant: Option<Id>,
 }
 
-#[derive(Clone, Copy)]
+#[derive(Clone, Copy, Debug, PartialEq, Eq)]
 pub enum Report {
     OfSubstrate(Substrate),
     OfLocation(Location),

@@ -1,13 +1,13 @@
 -- How a text is formed: at most sixteen bytes, each from hex 21 to 7E.
-use Rattle.std.specs.Prelude.{ℕ, ◌-◌, Bool, true, cond, ◌&&◌, List, [], ◌∷◌, ◌++◌, length, replicate, Some, None, Option, nat_le}
+use Rattle.std.specs.List.{list_all}
+use Rattle.std.specs.Prelude.{ℕ, ◌-◌, Bool, cond, ◌&&◌, List, ◌++◌, length, replicate, Some, None, Option, nat_le}
 
 -- a byte that a text may hold
 abbrev pub graphic : ℕ → Bool
 graphic b = nat_le 0x21 b && nat_le b 0x7E
 
 abbrev pub graphic_all : List ℕ → Bool
-graphic_all [] = true
-graphic_all (b ∷ bs) = graphic b && graphic_all bs
+graphic_all bs = list_all graphic bs
 
 abbrev pub formed : List ℕ → Bool
 formed bs = nat_le (length bs) 16 && graphic_all bs

@@ -4,12 +4,9 @@ ghost use Rattle.texts.specs.Form.{graphic_all, padded};
 pub mod making;
 pub mod printing;
 
-// Bytes that form no text, or no ID.
-#[derive(Clone, Copy, Debug, PartialEq, Eq)]
-pub struct Malformed;
-
 // A text of at most sixteen bytes, each from hex 21 to 7E; the bytes after its end are zero.
-#[derive(Clone, Copy, PartialEq, Eq)]
+// An array and how much of it is used: a text has fixed memory and no heap, and is copied.
+#[derive(Clone, Copy, Debug, PartialEq, Eq)]
 pub struct Text {
     bytes: [u8; 16],
     size: usize,

@@ -79,7 +79,7 @@ impl Change {
         let wafer = &standing.wafer;
         match self {
             Change::Correct => wafer.transport == Transport::AtDestination
-                && wafer.place.number() == wafer.source.number()
+                && wafer.place == wafer.source
                 && is_steady(wafer.processing),
             Change::Need(reading) => wafer.processing == Processing::NoneYet
                 && is_first_reading(reading),

@@ -52,9 +52,8 @@ impl Leg {
     pub fn fitting(wafer: &Wafer, target: Code, is_station: bool) -> Option<Leg>
         ensures { (at : Sites) → station at (coded target) ≡ is_station → option_map leg_meant result ≡ fitting at (Some (held wafer.now)) (coded target) }
     {
-        let target = target.number();
-        let source = wafer.source.number();
-        let destination = wafer.destination.number();
+        let source = wafer.source;
+        let destination = wafer.destination;
         let complete = is_complete(wafer.processing);
         if wafer.processing == Processing::InProcess || !is_steady(wafer.processing) {
             return None;

@@ -4,6 +4,8 @@
 #[cfg(test)]
 mod logs;
 #[cfg(test)]
+mod made;
+#[cfg(test)]
 mod raws;
 #[cfg(test)]
 mod sinking;

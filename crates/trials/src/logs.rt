@@ -1,39 +1,21 @@
+use crate::made::{SUBSTRATE, report};
+use layout::cells::STRIDE;
 use layout::fault::LayoutFault;
 use layout::write::write;
 use packed_log::reading::{LogFault, read_log};
-use reports::raw::{Numbers, Raw};
-use reports::report::Report;
+use reports::raw::Numbers;
 use std::alloc::Global;
 use std::test::Fail;
 
-fn registered(time: u64) -> Raw<&'static [u8]> {
-    Raw {
-        numbers: Numbers {
-            family: 0,
-            row: 1,
-            transport: 0,
-            processing: 15,
-            reading: 0,
-            spare: 0,
-            time,
-            place: 101,
-            source: 101,
-            destination: 201,
-        },
-        id: b"A1",
-        acquired: b"",
-    }
-}
-
-fn bytes_of(raw: Raw<&[u8]>) -> Result<[u8; 41], Fail> {
-    let report = Report::make(&raw).map_err(|_| Fail::new("a report within its bounds"))?;
-    Ok(write(&report))
+// The bytes of the report that wafer A1 was registered.
+fn registered(time: u64) -> Result<[u8; STRIDE], Fail> {
+    Ok(write(&report(Numbers { time, ..SUBSTRATE }, b"A1")?))
 }
 
 // Two reports, one after the other.
 fn two(heap: Global) -> Result<Vec<u8>, Fail> {
-    let a = bytes_of(registered(1000))?;
-    let b = bytes_of(registered(2000))?;
+    let a = registered(1000)?;
+    let b = registered(2000)?;
     let mut bytes = Vec::from_slice(heap, &a)?;
     bytes.extend_from_slice(&b)?;
     Ok(bytes)
@@ -41,7 +23,7 @@ fn two(heap: Global) -> Result<Vec<u8>, Fail> {
 
 #[test]
 fn worked_bytes(rt: HostRuntime) -> Result<(), Fail> {
-    let bytes = bytes_of(registered(1000))?;
+    let bytes = registered(1000)?;
     let front = [
         0x04, 0xF0, 0x00, 0x00, 0x00, 0x03, 0xE8, 0x00, 0x65, 0x00, 0x65, 0x00, 0xC9, 0x82, 0xC4,
     ];

@@ -1,33 +1,8 @@
+use crate::made::{LOCATION, SUBSTRATE};
 use reports::raw::{Numbers, Raw};
 use reports::report::Report;
 
 const LAST: u64 = 1_099_511_627_775;
-
-const SUBSTRATE: Numbers = Numbers {
-    family: 0,
-    row: 1,
-    transport: 0,
-    processing: 15,
-    reading: 0,
-    spare: 0,
-    time: 1000,
-    place: 101,
-    source: 101,
-    destination: 201,
-};
-
-const LOCATION: Numbers = Numbers {
-    family: 1,
-    row: 1,
-    transport: 0,
-    processing: 0,
-    reading: 0,
-    spare: 0,
-    time: 1000,
-    place: 101,
-    source: 0,
-    destination: 0,
-};
 
 // The numbers with another one in a field.
 fn with(base: Numbers, field: u8, value: u64) -> Numbers {

@@ -1,34 +1,27 @@
+use crate::made::{LOCATION, report};
 use packed_log::log::PackedLog;
-use reports::raw::{Numbers, Raw};
+use reports::raw::Numbers;
 use reports::report::Report;
 use sinks::records::Records;
 use sinks::sink::Sink;
 use std::process::Abort;
 use std::test::Fail;
 
-fn report() -> Result<Report, Fail> {
-    let raw: Raw<&[u8]> = Raw {
-        numbers: Numbers {
-            family: 1,
+fn unoccupied() -> Result<Report, Fail> {
+    report(
+        Numbers {
             row: 2,
-            transport: 0,
-            processing: 0,
-            reading: 0,
-            spare: 0,
             time: 7,
             place: 5,
-            source: 0,
-            destination: 0,
+            ..LOCATION
         },
-        id: b"",
-        acquired: b"",
-    };
-    Report::make(&raw).map_err(|_| Fail::new("a report within its bounds"))
+        b"",
+    )
 }
 
 // Puts into a sink until it is full, for which there has to be room this often.
 fn fill<S: Sink>(rt: &impl Abort, sink: &mut S, room: usize) -> Result<(), Fail> {
-    let report = report()?;
+    let report = unoccupied()?;
     for n in 0..room {
         assert_eq!(rt; sink.free(), room - n);
         assert!(rt; sink.put(report).is_ok());
@@ -41,7 +34,7 @@ fn fill<S: Sink>(rt: &impl Abort, sink: &mut S, room: usize) -> Result<(), Fail>
 
 #[test]
 fn record_sinks(rt: HostRuntime) -> Result<(), Fail> {
-    let any = report()?;
+    let any = unoccupied()?;
     fill(&rt, &mut Records::new(&mut []), 0)?;
     fill(&rt, &mut Records::new(&mut [any]), 1)?;
     let mut rows = [any; 3];

@@ -1,3 +1,4 @@
+use crate::made::{code, text};
 use rows::kind::Kind;
 use rows::place::Place;
 use rows::wafer::Wafer;
@@ -5,35 +6,20 @@ use std::test::Fail;
 use table::rows::Table;
 use texts::id::Id;
 use texts::text::Text;
-use values::code::Code;
 use values::states::{Processing, Reading, Transport};
 
 fn place(number: u16) -> Result<Place, Fail> {
-    let Some(code) = Code::new(number) else {
-        return Err(Fail::new("a code"));
-    };
     Ok(Place {
-        code,
+        code: code(number)?,
         kind: Kind::Slot,
         occupant: None,
         promise: None,
     })
 }
 
-fn text(bytes: &[u8]) -> Result<Text, Fail> {
-    match Text::new(bytes) {
-        Some(text) => Ok(text),
-        None => Err(Fail::new("a text")),
-    }
-}
-
 fn wafer(id: &[u8], number: u16) -> Result<Wafer, Fail> {
-    let Some(id) = Id::new(id) else {
-        return Err(Fail::new("an ID"));
-    };
-    let Some(place) = Code::new(number) else {
-        return Err(Fail::new("a code"));
-    };
+    let id = Id::new(id).ok_or_else(|| Fail::new("an ID"))?;
+    let place = code(number)?;
     Ok(Wafer {
         id,
         place,
@@ -48,10 +34,11 @@ fn wafer(id: &[u8], number: u16) -> Result<Wafer, Fail> {
 
 // The code of the place where a wafer is, or 0.
 fn at(wafers: &Table<Wafer>, id: &[u8]) -> Result<u16, Fail> {
-    match wafers.lookup(&text(id)?) {
-        Some(wafer) => Ok(wafer.place.number()),
-        None => Ok(0),
-    }
+    Ok(
+        wafers
+            .lookup(&text(id)?)
+            .map_or(0, |wafer| wafer.place.number()),
+    )
 }
 
 #[test]

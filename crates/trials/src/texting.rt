@@ -1,10 +1,7 @@
+use crate::made::text;
 use std::test::Fail;
 use texts::id::Id;
 use texts::text::Text;
-
-fn text(bytes: &[u8]) -> Result<Text, Fail> {
-    Text::new(bytes).ok_or_else(|| Fail::new("a text"))
-}
 
 #[test]
 fn lengths(rt: HostRuntime) {

@@ -4,8 +4,9 @@ ghost use Rattle.std.specs.Result.{result_ok};
 ghost use Rattle.texts.specs.Form.{id_of};
 ghost use Rattle.texts.specs.Meaning.{called};
 
+use crate::fault::Malformed;
 use crate::id::Id;
-use crate::text::{Malformed, Text};
+use crate::text::Text;
 use std::fmt;
 
 impl Id {

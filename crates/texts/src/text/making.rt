@@ -7,7 +7,8 @@ ghost use Rattle.texts.specs.Meaning.{spelled};
 ghost use Rattle.std.proofs.lemmas.Slice.Eq.{bytes_eq-Decides};
 ghost use Rattle.texts.specs.Equal.{same_spelled};
 
-use crate::text::{Malformed, Text};
+use crate::fault::Malformed;
+use crate::text::Text;
 use table::key::Key;
 
 impl Text {
@@ -18,19 +19,16 @@ impl Text {
     pub fn new(given: &[u8]) -> Option<Text>
         ensures { option_map spelled result ≡ text_of given.now }
     {
-        let n = given.len();
-        if n > Text::MOST {
+        let size = given.len();
+        if size > Text::MOST {
             return None;
         }
-        let mut bytes = [0u8; 16];
-        for i in 0..n {
-            let b = given[i];
-            if b < 0x21 || b > 0x7E {
-                return None;
-            }
-            bytes[i] = b;
+        if !given.iter().all(u8::is_ascii_graphic) {
+            return None;
         }
-        Some(Text { bytes, size: n })
+        let mut bytes = [0; Text::MOST];
+        bytes[..size].copy_from_slice(given);
+        Some(Text { bytes, size })
     }
 
     // The text of no bytes.

@@ -8,10 +8,7 @@ impl Text {
     pub fn as_str(&self) -> &str
         ensures { result.now ≡ spelled self.now }
     {
-        match std::str::from_utf8(&self.bytes[0..self.size]) {
-            Ok(s) => s,
-            Err(_) => unreachable(),
-        }
+        std::str::from_utf8(&self.bytes[..self.size]).unwrap()
     }
 }
 

@@ -25,10 +25,11 @@ impl<'a> Tracker<'a> {
     pub(crate) fn time_of(&self, given: u64) -> Result<Time, Refusal>
         ensures { Passed (timely (tracked self.now) given) Refusal.Time (λ t. moment t ≡ given) result }
     {
-        match Time::new(given) {
-            Some(time) if time.millis() >= self.latest.millis() => Ok(time),
-            _ => Err(Refusal::Time),
+        let time = Time::new(given).ok_or(Refusal::Time)?;
+        if time < self.latest {
+            return Err(Refusal::Time);
         }
+        Ok(time)
     }
 
     pub(crate) fn wafer_of(&self, id: &Id) -> Result<Wafer, Refusal>

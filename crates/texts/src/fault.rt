@@ -1,0 +1,3 @@
+// Bytes that form no text, or no ID.
+#[derive(Clone, Copy, Debug, PartialEq, Eq)]
+pub struct Malformed;
