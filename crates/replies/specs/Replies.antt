@@ -1,5 +1,5 @@
 -- Answers as text.
-use Rattle.std.specs.Prelude.{◌≡◌, ℕ, cond, List, [], ◌∷◌, ◌++◌, length, Some, None, Ok, Err, codes, decimal, Option, Result, ◌==◌}
+use Rattle.std.specs.Prelude.{◌≡◌, ℕ, cond, List, [], ◌∷◌, ◌++◌, length, Some, None, Ok, Err, codes, decimal, Option, Result, IfErr, ◌==◌}
 use Rattle.std.specs.List.{flat_map}
 use Rattle.reports.specs.Fields.{Fields}
 use Rattle.reports.specs.Bounds.{Refusal, blank}
@@ -8,6 +8,9 @@ use Rattle.words.specs.Texts.{escaped, echoed}
 use Rattle.words.specs.Hex.{hex_digits}
 use Rattle.outcomes.specs.Outcomes.{Answer, bytes, refusal, reports, answer_to}
 use Rattle.script.specs.Requests.{Request, Fault, request_of}
+use Rattle.script.specs.Wording.{fault_text}
+use Rattle.replies.specs.declared.refusal.Reason.{Reason}
+use Rattle.replies.specs.declared.refusal.Reason.TheVariants.{OutOfBounds, Short}
 
 -- one text after another, with a blank between
 abbrev pub ◌then◌ : List ℕ → List ℕ → List ℕ
@@ -40,6 +43,10 @@ abbrev pub values_text : List ℕ → List ℕ
 values_text [] = []
 values_text (v ∷ []) = 32 ∷ decimal v
 values_text (v ∷ w ∷ vs) = 32 ∷ (decimal v ++ values_text (w ∷ vs))
+
+abbrev pub reason_number : Reason → ℕ
+reason_number OutOfBounds = 15
+reason_number Short = 16
 
 abbrev pub refusal_text : Refusal → List ℕ
 refusal_text e = codes "refused" then (decimal e.number ++ values_text e.values)
@@ -87,3 +94,8 @@ Says (Err e) t = ErrorLine t
 abbrev pub Replies : List (List ℕ) → Option (List ℕ) → Type 0
 Replies ws None = ws ≡ []
 Replies ws (Some t) = (answer : List ℕ) × (t ≡ echoed ws ++ (10 ∷ answer)) × Says (request_of ws) answer
+
+-- where something is wrong with the words, the line after the echo says what
+abbrev pub Explains : List (List ℕ) → Option (List ℕ) → Type 0
+Explains ws None = Unit {0}
+Explains ws (Some t) = IfErr (request_of ws) (λ e. t ≡ echoed ws ++ (10 ∷ indented (codes "error: " ++ fault_text e)))

@@ -1,4 +1,5 @@
 #![tactic(auto)]
 
 mod lines;
+mod refusal;
 pub mod reply;

@@ -1,65 +1,98 @@
-ghost use Rattle.std.specs.Prelude.{◌≡◌, IfOk, string_bytes};
+ghost use Rattle.std.specs.Prelude.{Some};
 ghost use Rattle.reports.specs.Fields.{shown, substrate_fields, location_fields};
 ghost use Rattle.replies.specs.Replies.{codes_line, states_line, substrate_line, location_line, report_line};
 
 use reports::report::{Location, Report, Substrate};
-use std::alloc::{AllocError, Global};
-use words::texts::escaped;
+use std::fmt;
+use values::report::Occupancy;
+use words::texts::TextWord;
 
-fn codes_line(heap: Global, s: &Substrate) -> Result<String, AllocError>
-    ensures { IfOk result (λ t. string_bytes t ≡ codes_line (substrate_fields s.now)) }
-{
-    let place = s.place.number();
-    let source = s.source.number();
-    let destination = s.destination.number();
-    format!(in heap; "{place} {source} {destination}")
+// The three codes of a substrate report.
+#[derive(Clone, Copy)]
+struct Codes<'a>(&'a Substrate);
+
+impl fmt::Display for Codes<'_> {
+    ghost output = { λ c. Some (codes_line (substrate_fields c.0.now)) };
+
+    fn fmt<W: fmt::Write>(&self, f: &mut fmt::Formatter<W>) -> fmt::Result {
+        let place = self.0.place.number();
+        let source = self.0.source.number();
+        let destination = self.0.destination.number();
+        write!(f, "{place} {source} {destination}")
+    }
 }
 
-fn states_line(heap: Global, s: &Substrate) -> Result<String, AllocError>
-    ensures { IfOk result (λ t. string_bytes t ≡ states_line (substrate_fields s.now)) }
-{
-    let transport = u8::from(s.transport);
-    let processing = u8::from(s.processing);
-    let reading = u8::from(s.reading);
-    let acquired = escaped(heap, s.acquired.as_str().as_bytes())?;
-    format!(in heap; "{transport} {processing} {reading} {acquired}")
+// The three states of a substrate report, and the ID that was read.
+#[derive(Clone, Copy)]
+struct States<'a>(&'a Substrate);
+
+impl fmt::Display for States<'_> {
+    ghost output = { λ s. Some (states_line (substrate_fields s.0.now)) };
+
+    fn fmt<W: fmt::Write>(&self, f: &mut fmt::Formatter<W>) -> fmt::Result {
+        let transport = u8::from(self.0.transport);
+        let processing = u8::from(self.0.processing);
+        let reading = u8::from(self.0.reading);
+        let acquired = TextWord(self.0.acquired.as_str().as_bytes());
+        write!(f, "{transport} {processing} {reading} {acquired}")
+    }
 }
 
-fn substrate_line(heap: Global, s: &Substrate) -> Result<String, AllocError>
-    ensures { IfOk result (λ t. string_bytes t ≡ substrate_line (substrate_fields s.now)) }
-{
-    let row = u8::from(s.transition);
-    let time = s.time.millis();
-    let id = escaped(heap, s.id.text().as_str().as_bytes())?;
-    let codes = codes_line(heap, s)?;
-    let states = states_line(heap, s)?;
-    format!(in heap; "substrate {row} {time} {id} {codes} {states}")
+#[derive(Clone, Copy)]
+struct SubstrateLine<'a>(&'a Substrate);
+
+impl fmt::Display for SubstrateLine<'_> {
+    ghost output = { λ s. Some (substrate_line (substrate_fields s.0.now)) };
+
+    fn fmt<W: fmt::Write>(&self, f: &mut fmt::Formatter<W>) -> fmt::Result {
+        let row = u8::from(self.0.transition);
+        let time = self.0.time.millis();
+        let id = self.0.id.text();
+        let id = TextWord(id.as_str().as_bytes());
+        write!(
+            f,
+            "substrate {row} {time} {id} {} {}",
+            Codes(self.0),
+            States(self.0)
+        )
+    }
 }
 
-fn location_line(heap: Global, l: &Location) -> Result<String, AllocError>
-    ensures { IfOk result (λ t. string_bytes t ≡ location_line (location_fields l.now)) }
-{
-    let time = l.time.millis();
-    let place = l.place.number();
-    match l.occupant {
-        Some(occupant) => {
-            let row = 1u8;
-            let id = escaped(heap, occupant.text().as_str().as_bytes())?;
-            format!(in heap; "location {row} {time} {place} {id}")
-        }
-        None => {
-            let row = 2u8;
-            format!(in heap; "location {row} {time} {place}")
+#[derive(Clone, Copy)]
+struct LocationLine<'a>(&'a Location);
+
+impl fmt::Display for LocationLine<'_> {
+    ghost output = { λ l. Some (location_line (location_fields l.0.now)) };
+
+    fn fmt<W: fmt::Write>(&self, f: &mut fmt::Formatter<W>) -> fmt::Result {
+        let time = self.0.time.millis();
+        let place = self.0.place.number();
+        match self.0.occupant {
+            Some(occupant) => {
+                let row = u8::from(Occupancy::Occupied);
+                let id = occupant.text();
+                let id = TextWord(id.as_str().as_bytes());
+                write!(f, "location {row} {time} {place} {id}")
+            }
+            None => {
+                let row = u8::from(Occupancy::Unoccupied);
+                write!(f, "location {row} {time} {place}")
+            }
         }
     }
 }
 
 // A report by its words.
-pub fn report_line(heap: Global, report: &Report) -> Result<String, AllocError>
-    ensures { IfOk result (λ t. string_bytes t ≡ report_line (shown report.now)) }
-{
-    match report {
-        Report::OfSubstrate(s) => substrate_line(heap, s),
-        Report::OfLocation(l) => location_line(heap, l),
+#[derive(Clone, Copy)]
+pub struct ReportLine<'a>(pub &'a Report);
+
+impl fmt::Display for ReportLine<'_> {
+    ghost output = { λ r. Some (report_line (shown r.0.now)) };
+
+    fn fmt<W: fmt::Write>(&self, f: &mut fmt::Formatter<W>) -> fmt::Result {
+        match *self.0 {
+            Report::OfSubstrate(s) => write!(f, "{}", SubstrateLine(&s)),
+            Report::OfLocation(l) => write!(f, "{}", LocationLine(&l)),
+        }
     }
 }

@@ -1,60 +1,77 @@
--- A line read byte by byte.
-use Rattle.std.proofs.Common.{◌≡◌, ℕ, ◌+◌, ◌-◌, ◌<◌, ◌≤◌, Bool, true, false, ◌&&◌, eqb, List, [], ◌∷◌, ◌++◌, map, length, get_or, take, drop, sym, refl, ap, ◌∙◌, arith, Bor}
-use Rattle.std.proofs.lemmas.List.{append_assoc, append-nil, map-append, take_more, take_all, at_drop_more, at_drop_all}
-use Rattle.std.proofs.lemmas.Bool.{cond-true, cond-false, eqb-false}
-use Rattle.std.specs.List.{between}
-use Rattle.std.proofs.lemmas.List.Edits.{between_more}
-use Rattle.scan.specs.Lines.{is_blank, bare, closed, split}
+-- A line cut at its blanks, and its words.
+use Rattle.std.proofs.Common.{◌≡◌, ℕ, Bool, true, false, cond, not, eqb, nat_eq, List, [], ◌∷◌, ◌++◌, length, sym, refl, ap, ◌∙◌, arith}
+use Rattle.std.specs.List.{filter, take_while, starts_with, slice_split, onto_first}
+use Rattle.std.proofs.lemmas.List.{append_assoc, append-nil}
+use Rattle.std.proofs.lemmas.List.Sums.{take_while-cons}
+use Rattle.std.proofs.lemmas.Bool.{cond-true, cond-false, eqb-true, eqb-false, ne_eqb}
+use Rattle.scan.specs.Lines.{is_blank, bare, split, line_words}
 
-module _ (line : List ℕ) (fresh : Bool) (i : ℕ) (inside : i < length line) (so_far : take i line ++ bare fresh (drop i line) ≡ bare true line) where
-  now_at : take i line ++ bare fresh (get_or line i 0 ∷ drop (i + 1) line) ≡ bare true line
-  now_at = sym (ap (λ l. take i line ++ l) (at_drop_more (bare fresh) line i 0 inside)) ∙ so_far
+abbrev pub not_empty : List ℕ → Bool
+not_empty w = not (eqb (length w) 0)
 
-  pub cut_here : fresh && eqb (get_or line i 0) 35 ≡ true → take i line ≡ bare true line
-  cut_here e = sym (append-nil _) ∙ sym (ap (λ l. take i line ++ l) (cond-true _ _ _ e)) ∙ now_at
+abbrev pub no_comment : List ℕ → Bool
+no_comment w = not (starts_with nat_eq w (35 ∷ []))
 
-  pub goes_on : fresh && eqb (get_or line i 0) 35 ≡ false → take (i + 1) line ++ bare (is_blank (get_or line i 0)) (drop (i + 1) line) ≡ bare true line
-  goes_on e =
-      ap (λ l. l ++ bare (is_blank (get_or line i 0)) (drop (i + 1) line)) (take_more line i 0 inside) ∙ append_assoc (take i line) (get_or line i 0 ∷ []) _
-      ∙ sym (ap (λ l. take i line ++ l) (cond-false _ _ _ e)) ∙ now_at
+-- of the parts of a line, those before a comment that have any byte
+abbrev pub kept : List (List ℕ) → List (List ℕ)
+kept ws = take_while no_comment (filter not_empty ws)
 
-pub ended : (line : List ℕ) (fresh : Bool) (i : ℕ) → length line ≤ i → take i line ++ bare fresh (drop i line) ≡ bare true line → line ≡ bare true line
-ended line fresh i h so_far =
-    sym (take_all i line h) ∙ sym (append-nil _) ∙ sym (ap (λ l. take i line ++ l) (at_drop_all (bare fresh) line i h)) ∙ so_far
+-- bytes before the first part
+abbrev before : List ℕ → List (List ℕ) → List (List ℕ)
+before w [] = w ∷ []
+before w (x ∷ xs) = (w ++ x) ∷ xs
 
-closed_some : (bs : List ℕ) → eqb (length bs) 0 ≡ false → bs ∷ [] ≡ closed bs
-closed_some [] e = absurd (eqb-false 0 0 e refl)
-closed_some (b ∷ bs) e = refl
+before-onto_first : (w : List ℕ) (b : ℕ) (ws : List (List ℕ)) → before w (onto_first b ws) ≡ before (w ++ b ∷ []) ws
+before-onto_first w b [] = refl
+before-onto_first w b (x ∷ xs) = ap (λ l. l ∷ xs) (sym (append_assoc w (b ∷ []) x))
 
--- a word is kept
-pub kept : (was is : List (Bor (List ℕ))) (w : Bor (List ℕ)) → eqb (length w.now) 0 ≡ false → is ≡ was ++ w ∷ [] → map (λ x. x.now) is ≡ map (λ x. x.now) was ++ closed w.now
-kept was is w some e = ap (map (λ x. x.now)) e ∙ map-append (λ x. x.now) was (w ∷ []) ∙ ap (λ l. map (λ x. x.now) was ++ l) (closed_some w.now some)
+-- no word is begun
+abbrev fresh : List ℕ → Bool
+fresh [] = true
+fresh (c ∷ cs) = false
 
-module _ (told : List ℕ) (ws : List (List ℕ)) (start i : ℕ) (so_far : ws ++ split (between start i told) (drop i told) ≡ split [] told) where
-  here : i < length told → ws ++ split (between start i told) (get_or told i 0 ∷ drop (i + 1) told) ≡ split [] told
-  here h = sym (ap (λ l. ws ++ l) (at_drop_more (split (between start i told)) told i 0 h)) ∙ so_far
+kept-before_nil : (ws : List (List ℕ)) → kept (before [] ws) ≡ kept ws
+kept-before_nil [] = refl
+kept-before_nil (x ∷ xs) = refl
 
-  -- the word goes on
-  pub word_on : (vs : List (List ℕ)) (s : ℕ) → start ≤ i → i < length told → is_blank (get_or told i 0) ≡ false → vs ≡ ws → s ≡ start
-      → (s ≤ i + 1) × (vs ++ split (between s (i + 1) told) (drop (i + 1) told) ≡ split [] told)
-  word_on vs s le h e same at = (
-    omega arith,
-    ap (λ l. l ++ split (between s (i + 1) told) (drop (i + 1) told)) same
-        ∙ ap (λ k. ws ++ split (between k (i + 1) told) (drop (i + 1) told)) at
-        ∙ ap (λ w. ws ++ split w (drop (i + 1) told)) (between_more told start i 0 le h) ∙ sym (ap (λ l. ws ++ l) (cond-false _ _ _ e)) ∙ here h,
-  )
+kept-cons : (c : ℕ) (cs : List ℕ) (ws : List (List ℕ)) → kept ((c ∷ cs) ∷ ws) ≡ cond (no_comment (c ∷ cs)) ((c ∷ cs) ∷ kept ws) []
+kept-cons c cs ws =
+    let some : eqb (length (c ∷ cs)) 0 ≡ false = ne_eqb _ 0 (λ e. omega arith) in
+    ap (λ t. take_while no_comment (cond (not t) ((c ∷ cs) ∷ filter not_empty ws) (filter not_empty ws))) some ∙ take_while-cons no_comment (c ∷ cs) (filter not_empty ws)
 
-  -- the word has come to its end
-  pub word-ends : (vs : List (List ℕ)) (s : ℕ) → i < length told → is_blank (get_or told i 0) ≡ true → vs ≡ ws ++ closed (between start i told) → s ≡ i + 1
-      → (s ≤ i + 1) × (vs ++ split (between s (i + 1) told) (drop (i + 1) told) ≡ split [] told)
-  word-ends vs s h e more at = (
-    omega arith,
-    let none : i + 1 - s ≡ 0 = omega arith in
-        ap (λ l. l ++ split (between s (i + 1) told) (drop (i + 1) told)) more
-        ∙ ap (λ k. (ws ++ closed (between start i told)) ++ split (take k (drop s told)) (drop (i + 1) told)) none
-        ∙ append_assoc ws (closed (between start i told)) _ ∙ sym (ap (λ l. ws ++ l) (cond-true _ _ _ e)) ∙ here h,
-  )
+kept-onto_first : (b : ℕ) (ws : List (List ℕ)) → eqb b 35 ≡ true → kept (onto_first b ws) ≡ []
+kept-onto_first b [] e = let h : b ≡ 35 = eqb-true b 35 e in rw h (kept-cons 35 [] [])
+kept-onto_first b (w ∷ ws) e = let h : b ≡ 35 = eqb-true b 35 e in rw h (kept-cons 35 w ws)
 
-  pub all_split : length told ≡ i → ws ++ closed (between start (length told) told) ≡ split [] told
-  all_split h =
-      ap (λ k. ws ++ closed (between start k told)) h ∙ sym (ap (λ l. ws ++ l) (at_drop_all (split (between start i told)) told i (omega arith))) ∙ so_far
+no_blank : (b : ℕ) → eqb b 35 ≡ true → is_blank b ≡ false
+no_blank b e = let h : b ≡ 35 = eqb-true b 35 e in rw h
+
+no_comment-cons : (b : ℕ) → eqb b 35 ≡ false → no_comment (b ∷ []) ≡ true
+no_comment-cons b e = let h : eqb 35 b ≡ false = ne_eqb 35 b (λ q. eqb-false b 35 e (sym q)) in rw h
+
+-- a byte where no word is begun; t says that it is blank, and h that it is `#`
+at_start : (b : ℕ) (bs : List ℕ) (ws : List (List ℕ)) (t h : Bool) → is_blank b ≡ t → eqb b 35 ≡ h → kept (before [] ws) ≡ split [] (bare true bs)
+    → (no_comment (b ∷ []) ≡ true → kept (before (b ∷ []) ws) ≡ split (b ∷ []) (bare false bs))
+    → kept (before [] (cond t ([] ∷ ws) (onto_first b ws))) ≡ split [] (cond h [] (b ∷ bare t bs))
+at_start b bs ws true true e f start on = let g = no_blank b f in cc
+at_start b bs ws false true e f start on = kept-before_nil (onto_first b ws) ∙ kept-onto_first b ws f
+at_start b bs ws true false e f start on = sym (kept-before_nil ws) ∙ start ∙ sym (cond-true _ _ _ e)
+at_start b bs ws false false e f start on = ap kept (before-onto_first [] b ws) ∙ on (no_comment-cons b f) ∙ sym (cond-false _ _ _ e)
+
+-- a byte after those of a word
+in_word : (c : ℕ) (cs : List ℕ) (b : ℕ) (bs : List ℕ) (ws : List (List ℕ)) (t : Bool) → no_comment (c ∷ cs) ≡ true → is_blank b ≡ t → kept (before [] ws) ≡ split [] (bare true bs)
+    → kept (before (c ∷ cs ++ b ∷ []) ws) ≡ split (c ∷ cs ++ b ∷ []) (bare false bs)
+    → kept (before (c ∷ cs) (cond t ([] ∷ ws) (onto_first b ws))) ≡ split (c ∷ cs) (b ∷ bare t bs)
+in_word c cs b bs ws true w e start on =
+    ap (λ l. kept (l ∷ ws)) (append-nil (c ∷ cs)) ∙ kept-cons c cs ws ∙ cond-true _ _ _ w ∙ ap (λ l. (c ∷ cs) ∷ l) (sym (kept-before_nil ws) ∙ start) ∙ sym (cond-true _ _ _ e)
+in_word c cs b bs ws false w e start on = ap kept (before-onto_first (c ∷ cs) b ws) ∙ on ∙ sym (cond-false _ _ _ e)
+
+-- the parts of bs after the bytes of a word; no word is begun, or one that is no comment
+words_after : (w bs : List ℕ) → no_comment w ≡ true → kept (before w (slice_split is_blank bs)) ≡ split w (bare (fresh w) bs)
+words_after [] [] e = refl
+words_after (c ∷ cs) [] e = ap (λ l. kept (l ∷ [])) (append-nil (c ∷ cs)) ∙ kept-cons c cs [] ∙ cond-true _ _ _ e
+words_after [] (b ∷ bs) e = at_start b bs (slice_split is_blank bs) (is_blank b) (eqb b 35) refl refl (words_after [] bs refl) (λ w. words_after (b ∷ []) bs w)
+words_after (c ∷ cs) (b ∷ bs) e = in_word c cs b bs (slice_split is_blank bs) (is_blank b) e refl (words_after [] bs refl) (words_after (c ∷ cs ++ b ∷ []) bs e)
+
+pub kept-slice_split : (line : List ℕ) → kept (slice_split is_blank line) ≡ line_words line
+kept-slice_split line = sym (kept-before_nil (slice_split is_blank line)) ∙ words_after [] line refl

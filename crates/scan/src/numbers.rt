@@ -1,8 +1,9 @@
-ghost use Rattle.std.specs.Prelude.{◌≡◌, ◌≤◌, IfSome};
+ghost use Rattle.std.specs.Prelude.{◌≡◌, ℕ, ◌^◌, ◌-◌, ◌≤◌, IfSome};
+ghost use Rattle.std.specs.Option.{option_map};
 ghost use Rattle.scan.specs.Numbers.{number_of};
 
 // The number that decimal digits write, if they are some and it is at most `most`.
-fn decimal(word: &[u8], most: u64) -> Option<u64>
+pub fn number(word: &[u8], most: u64) -> Option<u64>
     ensures value { result ≡ number_of most word.now }
     ensures within { IfSome result (λ n. n ≤ most) }
 {
@@ -11,42 +12,67 @@ fn decimal(word: &[u8], most: u64) -> Option<u64>
     }
     let mut n = 0u64;
     for b in word {
-        if !b.is_ascii_digit() {
+        let digit = char::from(*b).to_digit(10)?;
+        n = n.checked_mul(10)?.checked_add(u64::from(digit))?;
+        if n > most {
             return None;
         }
-        let d = u64::from(*b - b'0');
-        if d > most || n > (most - d) / 10 {
-            return None;
-        }
-        n = n * 10 + d;
     }
     Some(n)
 }
 
-// The number that a word writes, if it writes one of at most `most`.
-pub fn number(word: &[u8], most: u64) -> Option<u64>
-    ensures value { result ≡ number_of most word.now }
-    ensures within { IfSome result (λ n. n ≤ most) }
-{
-    decimal(word, most)
+// An unsigned type, by the most that it holds.
+pub trait Unsigned: Sized {
+    ghost MOST: { ℕ };
+
+    ghost value: { Self → ℕ };
+
+    const MOST: u64;
+
+    fn narrow(n: u64) -> Self
+        requires { n ≤ MOST }
+        ensures { value result ≡ n };
 }
 
-// A row, a state or a reading: at most 255.
-pub fn byte(word: &[u8]) -> Option<u8>
-    ensures { result ≡ number_of 255 word.now }
-{
-    match number(word, 255) {
-        Some(n) => Some(n as u8),
-        None => None,
+impl Unsigned for u8 {
+    ghost MOST = { 255 };
+
+    ghost value = { λ n. n };
+
+    const MOST: u64 = u8::MAX as u64;
+
+    fn narrow(n: u64) -> u8 {
+        n as u8
     }
 }
 
-// A place's code: at most 65,535.
-pub fn code(word: &[u8]) -> Option<u16>
-    ensures { result ≡ number_of 65535 word.now }
-{
-    match number(word, 65_535) {
-        Some(n) => Some(n as u16),
-        None => None,
+impl Unsigned for u16 {
+    ghost MOST = { 65535 };
+
+    ghost value = { λ n. n };
+
+    const MOST: u64 = u16::MAX as u64;
+
+    fn narrow(n: u64) -> u16 {
+        n as u16
     }
+}
+
+impl Unsigned for u64 {
+    ghost MOST = { 2 ^ 64 - 1 };
+
+    ghost value = { λ n. n };
+
+    const MOST: u64 = u64::MAX;
+
+    fn narrow(n: u64) -> u64 {
+        n
+    }
+}
+
+// The number that a word writes, if its type holds it.
+pub fn fitting<T: Unsigned>(word: &[u8]) -> Option<T>
+    ensures { option_map T.value result ≡ number_of T.MOST word.now }
+{
+    Some(T::narrow(number(word, T::MOST)?))
 }

@@ -1,13 +1,16 @@
-ghost use Rattle.std.specs.Prelude.{◌≡◌};
+ghost use Rattle.std.specs.Prelude.{◌≡◌, Some};
+ghost use Rattle.std.specs.List.{list_all};
+ghost use Rattle.words.specs.Texts.{graphic};
 ghost use Rattle.script.specs.declared.mistake.Mistake.TheVariants.{NoMemory};
+ghost use Rattle.script.specs.Wording.{wanted, no_text_reason, mistake_text};
 
 use std::alloc::AllocError;
 use std::fmt;
 use values::field::Field;
-use words::texts::is_graphic;
+use words::texts::EchoedWord;
 
 // What a number of words belongs to.
-#[derive(Clone, Copy)]
+#[derive(Clone, Copy, Debug, PartialEq, Eq)]
 pub enum Form {
     Pack,
     Substrate,
@@ -16,7 +19,7 @@ pub enum Form {
 }
 
 // Why a command cannot be carried out as it is written.
-#[derive(Clone, Copy)]
+#[derive(Clone, Copy, Debug, PartialEq, Eq)]
 pub enum Mistake<'a> {
     // There is no word.
     Nothing,
@@ -46,88 +49,67 @@ impl From<AllocError> for Mistake<'_> {
     }
 }
 
-// A word, with bytes that do not print as `%` and two hex digits.
-#[derive(Clone, Copy)]
-struct Quoted<'a>(&'a [u8]);
+// The words that a form takes.
+impl fmt::Display for Form {
+    ghost output = { λ form. Some (wanted form) };
 
-impl fmt::Display for Quoted<'_> {
     fn fmt<W: fmt::Write>(&self, f: &mut fmt::Formatter<W>) -> fmt::Result {
-        for b in self.0 {
-            if is_graphic(*b) {
-                f.write_char(char::from(*b))?;
-            } else {
-                let code = *b;
-                write!(f, "%{code:02X}")?;
-            }
-        }
-        Ok(())
+        f.write_str(match self {
+            Form::Pack => "pack takes the words of a report, not",
+            Form::Substrate => "a substrate report has 10 words after its kind, not",
+            Form::Location => "a location report has 3 or 4 words after its kind, not",
+            Form::Unpack => "unpack takes at most one word, not",
+        })
     }
+}
+
+// Whether each byte is from hex 21 to 7E.
+fn all_graphic(word: &[u8]) -> bool
+    ensures { result ≡ list_all graphic word.now }
+{
+    word.iter().all(|b| b.is_ascii_graphic())
 }
 
 // Why a word is no text.
-fn no_text(word: &[u8]) -> &'static str {
-    for b in word {
-        if !is_graphic(*b) {
-            return "it has a byte outside hex 21 to 7E";
-        }
-    }
-    "% stands before two hex digits, or in %- alone"
-}
-
-// The words that a form takes.
-fn wanted(form: Form) -> &'static str {
-    match form {
-        Form::Pack => "pack takes the words of a report, not",
-        Form::Substrate => "a substrate report has 10 words after its kind, not",
-        Form::Location => "a location report has 3 or 4 words after its kind, not",
-        Form::Unpack => "unpack takes at most one word, not",
-    }
-}
-
-// A field's word in the rules.
-fn name(field: Field) -> &'static str {
-    match field {
-        Field::Family => "FAMILY",
-        Field::Row => "ROW",
-        Field::Transport => "TRANSPORT",
-        Field::Processing => "PROCESSING",
-        Field::Reading => "READING",
-        Field::Spare => "SPARE",
-        Field::Time => "TIME",
-        Field::Place => "PLACE",
-        Field::Source => "SOURCE",
-        Field::Destination => "DESTINATION",
-        Field::Id => "ID",
-        Field::Acquired => "ACQUIRED",
+fn no_text(word: &[u8]) -> &'static str
+    ensures { result.now ≡ no_text_reason word.now }
+{
+    if all_graphic(word) {
+        "% stands before two hex digits, or in %- alone"
+    } else {
+        "it has a byte outside hex 21 to 7E"
     }
 }
 
 impl fmt::Display for Mistake<'_> {
+    ghost output = { λ m. Some (mistake_text m) };
+
     fn fmt<W: fmt::Write>(&self, f: &mut fmt::Formatter<W>) -> fmt::Result {
         match *self {
             Mistake::Nothing => f.write_str("no words"),
-            Mistake::NoCommand(word) => {
-                let word = Quoted(word);
-                write!(f, "no command '{word}'")
-            }
+            Mistake::NoCommand(word) => write!(f, "no command '{}'", EchoedWord(word)),
             Mistake::NoKind(word) => {
-                let word = Quoted(word);
-                write!(f, "no report '{word}', only substrate and location")
+                write!(
+                    f,
+                    "no report '{}', only substrate and location",
+                    EchoedWord(word)
+                )
             }
-            Mistake::Count(form, n) => {
-                let wanted = wanted(form);
-                write!(f, "{wanted} {n}")
-            }
+            Mistake::Count(form, n) => write!(f, "{form} {n}"),
             Mistake::Number(field, word, most) => {
-                let name = name(field);
-                let word = Quoted(word);
-                write!(f, "{name} '{word}' is no number up to {most}")
+                write!(
+                    f,
+                    "{field} '{}' is no number up to {most}",
+                    EchoedWord(word)
+                )
             }
-            Mistake::Text(field, given) => {
-                let name = name(field);
-                let word = Quoted(given);
-                let reason = no_text(given);
-                write!(f, "{name} '{word}' is no text: {reason}")
+            Mistake::Text(field, word) => {
+                write!(
+                    f,
+                    "{field} '{}' is no text: {}",
+                    EchoedWord(word),
+                    no_text(word)
+                )
             }
             Mistake::OddHex(n) => write!(f, "HEX has {n} digits, an odd number"),
             Mistake::NoHex => f.write_str("HEX has a character that is no hex digit"),

@@ -1,6 +1,8 @@
 ghost use Rattle.std.specs.Prelude.{◌≡◌};
 ghost use Rattle.values.specs.Numbers.{field_number};
 
+pub mod name;
+
 // The twelve fields of a report, in the order of the packed layout.
 #[derive(Clone, Copy, Debug, PartialEq, Eq)]
 pub enum Field {

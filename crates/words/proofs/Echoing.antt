@@ -1,20 +1,20 @@
 -- The echo of a command, word by word.
-use Rattle.std.proofs.Common.{◌≡◌, ℕ, ◌+◌, ◌<◌, ◌≤◌, false, cond, eqb, List, [], ◌∷◌, ◌++◌, map, length, get_or, drop, sym, ap, ◌∙◌, arith, Bor}
+use Rattle.std.proofs.Common.{◌≡◌, ℕ, suc, ◌+◌, ◌<◌, false, List, [], ◌∷◌, ◌++◌, map, length, get_or, take, drop, sym, ap, ◌∙◌, arith, Bor}
 use Rattle.std.specs.List.{flat_map}
-use Rattle.std.proofs.lemmas.List.{append_assoc, append-nil, at_drop_more, at_drop_all}
-use Rattle.std.proofs.lemmas.Bool.{ne_eqb}
-use Rattle.words.specs.Texts.{echoed_byte, echoed_from}
+use Rattle.std.proofs.lemmas.List.{append_assoc, append-nil, take_more, get_or-map, length-map}
+use Rattle.words.specs.Texts.{echoed_byte, echoed_from, echoed}
 
--- one word more
-pub echoed_more : (ws : List (Bor (List ℕ))) (i : ℕ) (d : Bor (List ℕ)) (s t all : List ℕ) → i < length ws → s ++ echoed_from (eqb i 0) (map (λ x. x.now) (drop i ws)) ≡ all
-    → t ≡ s ++ (cond (eqb i 0) [] (32 ∷ []) ++ flat_map echoed_byte (get_or ws i d).now) → t ++ echoed_from (eqb (i + 1) 0) (map (λ x. x.now) (drop (i + 1) ws)) ≡ all
-echoed_more ws i d s t all h so_far more =
-    let later : eqb (i + 1) 0 ≡ false = ne_eqb (i + 1) 0 (λ e. omega arith) in
-    let gap = cond (eqb i 0) [] (32 ∷ []) in
-    let word = flat_map echoed_byte (get_or ws i d).now in
-    let rest = echoed_from false (map (λ x. x.now) (drop (i + 1) ws)) in
-    ap (λ f. t ++ echoed_from f (map (λ x. x.now) (drop (i + 1) ws))) later ∙ ap (λ l. l ++ rest) more ∙ append_assoc s (gap ++ word) rest ∙ ap (λ l. s ++ l) (append_assoc gap word rest)
-    ∙ sym (ap (λ l. s ++ l) (at_drop_more (λ l. echoed_from (eqb i 0) (map (λ x. x.now) l)) ws i d h)) ∙ so_far
+echoed_from-append : (ws : List (List ℕ)) (w : List ℕ) → echoed_from false (ws ++ w ∷ []) ≡ echoed_from false ws ++ (32 ∷ flat_map echoed_byte w)
+echoed_from-append [] w = ap (λ l. 32 ∷ l) (append-nil _)
+echoed_from-append (v ∷ ws) w = ap (λ l. 32 ∷ (flat_map echoed_byte v ++ l)) (echoed_from-append ws w) ∙ ap (λ l. 32 ∷ l) (sym (append_assoc (flat_map echoed_byte v) (echoed_from false ws) _))
 
-pub echoed_all : (ws : List (Bor (List ℕ))) (i : ℕ) (s all : List ℕ) → length ws ≤ i → s ++ echoed_from (eqb i 0) (map (λ x. x.now) (drop i ws)) ≡ all → s ≡ all
-echoed_all ws i s all h so_far = sym (append-nil s) ∙ sym (ap (λ l. s ++ l) (at_drop_all (λ l. echoed_from (eqb i 0) (map (λ x. x.now) l)) ws i h)) ∙ so_far
+-- one word more, after the first
+pub echoed_more : (ws : List (Bor (List ℕ))) (i : ℕ) (d : Bor (List ℕ)) → i < length (drop 1 ws)
+    → echoed (take (suc i) (map (λ x. x.now) ws)) ++ (32 ∷ flat_map echoed_byte (get_or (drop 1 ws) i d).now) ≡ echoed (take (suc (i + 1)) (map (λ x. x.now) ws))
+echoed_more [] i d h = absurd (omega arith)
+echoed_more (w ∷ ws) i d h =
+    let later = map (λ x. x.now) ws in
+    let more = take_more later i [] (rw length-map h) in
+    append_assoc (flat_map echoed_byte w.now) (echoed_from false (take i later)) _
+    ∙ sym (ap (λ l. flat_map echoed_byte w.now ++ l)
+    (ap (echoed_from false) more ∙ echoed_from-append (take i later) (get_or later i []) ∙ ap (λ v. echoed_from false (take i later) ++ (32 ∷ flat_map echoed_byte v)) (get_or-map (λ x. x.now) ws i d [] h)))

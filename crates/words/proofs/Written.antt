@@ -1,22 +1,30 @@
 -- What is written reads as what it came from.
-use Rattle.std.proofs.Common.{◌≡◌, ℕ, ◌+◌, ◌*◌, ◌/◌, ◌%◌, ◌<◌, Bool, true, false, cond, not, ◌||◌, eqb, List, [], ◌∷◌, ◌++◌, length, get_or, take, Some, sym, refl, ap, ◌∙◌, arith}
+use Rattle.std.proofs.Common.{◌≡◌, ℕ, ◌+◌, ◌-◌, ◌*◌, ◌/◌, ◌%◌, ◌^◌, ◌<◌, Bool, true, false, cond, not, ◌||◌, eqb, List, [], ◌∷◌, ◌++◌, length, get_or, take, Some, sym, refl, ap, ◌∙◌, arith}
 use Rattle.std.specs.Int.Digits.{AllBelowBase}
 use Rattle.std.specs.List.{flat_map}
-use Rattle.std.proofs.lemmas.List.{flat_map_more, take_more, append_assoc}
-use Rattle.std.proofs.lemmas.Bool.{cond-true, cond-false, and_left, and_parts, or_parts, not-true, eqb-true, eqb-false}
+use Rattle.std.specs.Fmt.{padded_integral, format_spec, digits_output, radix_digits, styled_digits_output, digit_glyph, HasWritten}
+use Rattle.std.specs.Option.{option_map}
+use Rattle.std.specs.declared.fmt.Formatter.{Formatter}
+use Rattle.std.proofs.Output.{has_written_append, has_written_of_eq}
+use Rattle.std.proofs.lemmas.Fmt.{hex_byte as hex_byte_shown}
+use Rattle.std.proofs.lemmas.List.{flat_map_more, take_more}
+use Rattle.std.proofs.lemmas.Bool.{cond-true, cond-false, and_left, and_parts, or_parts, not-true}
 use Rattle.std.proofs.lemmas.Bool.Decides.{nat_tests}
 use Rattle.words.specs.Hex.{hex_digit, hex_byte, hex_word, glyph, hex_pair, hex_digits, paired, before}
-use Rattle.words.specs.Texts.{graphic, stands, unescaped, no_text, is_no_text, text_word, escaped_byte, escaped}
+use Rattle.words.specs.Texts.{graphic, stands, unescaped, is_no_text, text_word, escaped_byte}
 use Rattle.words.specs.Laws.{HexReadsBack, TextReadsBack}
 
--- one byte more is written, after what stood there
-pub written_more : (f : ℕ → List ℕ) (old bs : List ℕ) (i : ℕ) (s t : List ℕ) → i < length bs → s ≡ old ++ flat_map f (take i bs) → t ≡ s ++ f (get_or bs i 0) → t ≡ old ++ flat_map f (take (i + 1) bs)
-written_more f old bs i s t h e g =
-    g ∙ ap (λ l. l ++ f (get_or bs i 0)) e ∙ flat_map_more f old (take i bs) (get_or bs i 0) ∙ sym (ap (λ l. old ++ flat_map f l) (take_more bs i 0 h))
+digit_glyph-is : (d : ℕ) → d < 16 → digit_glyph true d ≡ glyph d
+digit_glyph-is d h = grind (arith, nat_tests)
 
--- one part pushed after another
-pub then_pushed : (s t u x y z : List ℕ) → t ≡ s ++ x → x ≡ z → u ≡ t ++ y → u ≡ s ++ (z ++ y)
-then_pushed s t u x y z e f g = let r = append_assoc s z y in cc
+-- what `{:02X}` writes of a byte
+pub styled-hex_pair : (b : ℕ) (d : _) (s : _) → b < 256 → digits_output d ≡ Some (radix_digits 16 true b) → s ≡ format_spec 32 0 4 2 (2 ^ 64 - 1) → styled_digits_output d s ≡ Some (hex_pair b)
+styled-hex_pair b d s h e f =
+    let high : b / 16 < 16 = omega arith in
+    let low : b % 16 < 16 = omega arith in
+    let options = format_spec 32 0 4 2 (2 ^ 64 - 1) in
+    ap (styled_digits_output d) f ∙ ap (option_map (padded_integral options false [])) e
+    ∙ ap Some (hex_byte_shown true b h ∙ ap (λ g. g ∷ digit_glyph true (b % 16) ∷ []) (digit_glyph-is (b / 16) high) ∙ ap (λ g. glyph (b / 16) ∷ g ∷ []) (digit_glyph-is (b % 16) low))
 
 digit_back : (d : ℕ) → d < 16 → hex_digit (glyph d) ≡ Some d
 digit_back d h = grind (arith, nat_tests)
@@ -32,10 +40,6 @@ pub hex_reads_back : HexReadsBack
 unfolding hex_word
 hex_reads_back [] u = refl
 hex_reads_back (b ∷ bs) u = ap (λ o. before o (hex_word (hex_digits bs))) (byte_back b u.0) ∙ ap (before (Some b)) (hex_reads_back bs u.1)
-
--- two characters pushed, one after the other
-pub two_pushed : (s t u x y : List ℕ) (a b p q : ℕ) → t ≡ s ++ x → u ≡ t ++ y → x ≡ a ∷ [] → y ≡ b ∷ [] → a ≡ p → b ≡ q → u ≡ s ++ p ∷ q ∷ []
-two_pushed s t u x y a b p q e f g h k l = let r = append_assoc s (a ∷ []) (b ∷ []) in cc
 
 -- a byte that stands for itself, before a word
 plain_back : (b : ℕ) (w : List ℕ) → graphic b ≡ true → eqb b 37 ≡ false → unescaped (b ∷ w) ≡ before (Some b) (unescaped w)
@@ -69,10 +73,8 @@ unfolding text_word
 text_reads_back [] u = refl
 text_reads_back (b ∷ bs) u = cond-false _ _ _ (some_text b (flat_map escaped_byte bs) (stands b) refl) ∙ bytes_back (b ∷ bs) u
 
-pub none-escaped : (bs : List ℕ) → eqb (length bs) 0 ≡ true → no_text ≡ escaped bs
-none-escaped [] e = refl
-none-escaped (b ∷ bs) e = absurd (omega (arith, eqb-true _ 0 e))
-
-pub some_escaped : (bs : List ℕ) → eqb (length bs) 0 ≡ false → flat_map escaped_byte bs ≡ escaped bs
-some_escaped [] e = absurd (eqb-false 0 0 e refl)
-some_escaped (b ∷ bs) e = refl
+-- one byte more is written, after those before it
+pub has_written_more : {W : Type 0} (took : W → List ℕ → W → Type 0) (text : ℕ → List ℕ) (bs : List ℕ) (i : ℕ) (f g h : Formatter W) → i < length bs → HasWritten took f (flat_map text (take i bs)) g → HasWritten took g (text (get_or bs i 0)) h
+    → HasWritten took f (flat_map text (take (i + 1) bs)) h
+has_written_more took text bs i f g h lt before byte =
+    has_written_of_eq took _ _ _ _ (flat_map_more text [] (take i bs) (get_or bs i 0) ∙ sym (ap (flat_map text) (take_more bs i 0 lt))) (has_written_append took _ _ _ _ _ before byte)

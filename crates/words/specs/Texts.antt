@@ -18,16 +18,16 @@ unescaped (c ∷ []) = cond (c == 37) None (before (itself c) (Some []))
 unescaped (c ∷ h ∷ []) = cond (c == 37) None (before (itself c) (unescaped (h ∷ [])))
 unescaped (c ∷ h ∷ l ∷ cs) = cond (c == 37) (before (hex_byte h l) (unescaped cs)) (before (itself c) (unescaped (h ∷ l ∷ cs)))
 
--- the byte that a word begins with, and how many bytes write it
-abbrev pub taking : ℕ → Option ℕ → Option (ℕ × ℕ)
-taking n None = None
-taking n (Some b) = Some (b, n)
+-- the byte that a word begins with, and the rest of the word
+abbrev pub leaving : List ℕ → Option ℕ → Option (ℕ × List ℕ)
+leaving rest None = None
+leaving rest (Some b) = Some (b, rest)
 
-abbrev pub first_byte : List ℕ → Option (ℕ × ℕ)
+abbrev pub first_byte : List ℕ → Option (ℕ × List ℕ)
 first_byte [] = None
-first_byte (c ∷ []) = cond (c == 37) None (taking 1 (itself c))
-first_byte (c ∷ h ∷ []) = cond (c == 37) None (taking 1 (itself c))
-first_byte (c ∷ h ∷ l ∷ cs) = cond (c == 37) (taking 3 (hex_byte h l)) (taking 1 (itself c))
+first_byte (c ∷ []) = cond (c == 37) None (leaving [] (itself c))
+first_byte (c ∷ h ∷ []) = cond (c == 37) None (leaving (h ∷ []) (itself c))
+first_byte (c ∷ h ∷ l ∷ cs) = cond (c == 37) (leaving cs (hex_byte h l)) (leaving (h ∷ l ∷ cs) (itself c))
 
 -- the word `%-`
 abbrev pub no_text : List ℕ

@@ -1,39 +1,24 @@
-ghost use Rattle.std.specs.Prelude.{◌≡◌, ◌<◌, ◌≤◌, [], ◌∷◌, ◌++◌, map, length, IfSome, IfOk, if◌then◌else◌, vec_items, string_bytes, OnOk};
+ghost use Rattle.std.specs.Prelude.{◌≡◌, ◌<◌, [], ◌∷◌, map, length, IsTrue, if◌then◌else◌, IfOk, IfSome, Some, vec_items, string_bytes};
 ghost use Rattle.std.specs.Option.{option_map};
 ghost use Rattle.std.specs.List.{flat_map};
+ghost use Rattle.std.specs.Fmt.{WritesOnOk};
 ghost use Rattle.words.specs.Hex.{hex_pair};
-ghost use Rattle.words.specs.Texts.{graphic, first_byte, unescaped, is_no_text, text_word, escaped, escaped_byte, echoed_byte, echoed};
+ghost use Rattle.words.specs.Texts.{first_byte, unescaped, text_word, escaped, echoed_byte, echoed};
 ghost use Rattle.words.specs.Laws.{TextReadsBack};
 
 use crate::hex;
 use std::alloc::{AllocError, Global};
+use std::fmt;
 
-// A byte from hex 21 to 7E.
-pub fn is_graphic(b: u8) -> bool
-    ensures { result ≡ graphic b }
-{
-    b >= 0x21 && b <= 0x7E
-}
-
-// The byte that a word begins with, and how many bytes of the word it takes.
-fn first(word: &[u8]) -> Option<(u8, usize)>
-    ensures value { result ≡ first_byte word.now }
-    ensures within { IfSome result (λ p. (1 ≤ p.1) × (p.1 ≤ length word.now)) }
+// The byte that a word begins with, and the rest of the word.
+fn first(word: &[u8]) -> Option<(u8, &[u8])>
+    ensures value { option_map (λ p. (p.0, p.1.now)) result ≡ first_byte word.now }
+    ensures shorter { IfSome result (λ p. length p.1.now < length word.now) }
 {
     match word {
-        [] => None,
-        [b'%', high, low, ..] => Some((hex::byte(*high, *low)?, 3)),
-        [b'%', ..] => None,
-        [c, ..] => { if is_graphic(*c) { Some((*c, 1)) } else { None } }
-    }
-}
-
-fn is_no_text(word: &[u8]) -> bool
-    ensures { result ≡ is_no_text word.now }
-{
-    match word {
-        [b'%', b'-'] => true,
-        _ => false,
+        [b'%', high, low, rest @ ..] => Some((hex::byte(*high, *low)?, rest)),
+        [b, rest @ ..] if *b != b'%' && b.is_ascii_graphic() => Some((*b, rest)),
+        _ => None,
     }
 }
 
@@ -41,54 +26,52 @@ fn unescape(heap: Global, word: &[u8]) -> Result<Option<Vec<u8>>, AllocError>
     ensures { IfOk result (λ o. option_map vec_items o ≡ unescaped word.now) }
 {
     let mut out = Vec::new(heap);
-    let mut i = 0;
-    while i < word.len() {
-        let Some((b, n)) = first(&word[i..]) else {
-            return Ok(None);
-        };
+    let mut left = word;
+    while let Some((b, rest)) = first(left) {
         out.push(b)?;
-        i += n;
+        left = rest;
     }
-    Ok(Some(out))
+    Ok(left.is_empty().then_some(out))
 }
 
 // The bytes of a text as a command writes it.
 pub fn bytes(heap: Global, word: &[u8]) -> Result<Option<Vec<u8>>, AllocError>
     ensures { IfOk result (λ o. option_map vec_items o ≡ text_word word.now) }
 {
-    if is_no_text(word) {
+    if word == b"%-".as_slice() {
         Ok(Some(Vec::new(heap)))
     } else {
         unescape(heap, word)
     }
 }
 
-// Writes `%` and a byte's two digits.
-fn push_code(out: &mut String, b: u8) -> Result<(), AllocError>
-    ensures { OnOk result (string_bytes out.new ≡ string_bytes out.old ++ 37 ∷ hex_pair b) }
+// Writes a byte as it is where it `stands`, and else as `%` and its two hex digits.
+fn write_byte<W: fmt::Write>(f: &mut fmt::Formatter<W>, b: u8, stands: bool) -> fmt::Result
+    requires { IsTrue stands → b < 128 }
+    ensures { WritesOnOk W.write_str_gives f.old result (if stands then b ∷ [] else 37 ∷ hex_pair b) f.new }
 {
-    out.push('%')?;
-    hex::push(out, b)?;
-    Ok(())
-}
-
-// Writes a graphic byte.
-fn push_itself(out: &mut String, b: u8) -> Result<(), AllocError>
-    requires { b < 128 }
-    ensures { OnOk result (string_bytes out.new ≡ string_bytes out.old ++ b ∷ []) }
-{
-    out.push(char::from(b))?;
-    Ok(())
-}
-
-// Writes a byte as a text's word has it.
-fn push(out: &mut String, b: u8) -> Result<(), AllocError>
-    ensures { OnOk result (string_bytes out.new ≡ string_bytes out.old ++ escaped_byte b) }
-{
-    if is_graphic(b) && b != b'%' && b != b'#' {
-        push_itself(out, b)
+    if stands {
+        f.write_char(char::from(b))
     } else {
-        push_code(out, b)
+        write!(f, "%{b:02X}")
+    }
+}
+
+// The word that stands for the bytes of a text.
+#[derive(Clone, Copy)]
+pub struct TextWord<'a>(pub &'a [u8]);
+
+impl fmt::Display for TextWord<'_> {
+    ghost output = { λ t. Some (escaped t.0.now) };
+
+    fn fmt<W: fmt::Write>(&self, f: &mut fmt::Formatter<W>) -> fmt::Result {
+        if self.0.is_empty() {
+            return f.write_str("%-");
+        }
+        for &b in self.0 {
+            write_byte(f, b, b.is_ascii_graphic() && !matches!(b, b'%' | b'#'))?;
+        }
+        Ok(())
     }
 }
 
@@ -97,56 +80,45 @@ pub fn escaped(heap: Global, bytes: &[u8]) -> Result<String, AllocError>
     ensures value { IfOk result (λ s. string_bytes s ≡ escaped bytes.now) }
     ensures reads { TextReadsBack }
 {
-    if bytes.is_empty() {
-        return String::from_str(heap, "%-");
-    }
-    let mut out = String::new(heap);
-    for b in bytes {
-        push(&mut out, *b)?;
-    }
-    Ok(out)
-}
-
-// Writes a byte as the echo of a command has it.
-fn push_echo(out: &mut String, b: u8) -> Result<(), AllocError>
-    ensures { OnOk result (string_bytes out.new ≡ string_bytes out.old ++ echoed_byte b) }
-{
-    if is_graphic(b) {
-        push_itself(out, b)
-    } else {
-        push_code(out, b)
-    }
+    TextWord(bytes).to_string(heap)
 }
 
 // A word as the echo of a command has it.
-fn push_word(out: &mut String, word: &[u8]) -> Result<(), AllocError>
-    ensures { OnOk result (string_bytes out.new ≡ string_bytes out.old ++ flat_map echoed_byte word.now) }
-{
-    for b in word {
-        push_echo(out, *b)?;
+#[derive(Clone, Copy)]
+pub struct EchoedWord<'a>(pub &'a [u8]);
+
+impl fmt::Display for EchoedWord<'_> {
+    ghost output = { λ w. Some (flat_map echoed_byte w.0.now) };
+
+    fn fmt<W: fmt::Write>(&self, f: &mut fmt::Formatter<W>) -> fmt::Result {
+        for &b in self.0 {
+            write_byte(f, b, b.is_ascii_graphic())?;
+        }
+        Ok(())
     }
-    Ok(())
 }
 
-// Writes a word, after a blank if it is not the first.
-fn push_next(out: &mut String, first: bool, word: &[u8]) -> Result<(), AllocError>
-    ensures { OnOk result (string_bytes out.new ≡ string_bytes out.old ++ ((if first then [] else 32 ∷ []) ++ flat_map echoed_byte word.now)) }
-{
-    if first {
-        return push_word(out, word);
+// A command's words as they are echoed, joined by one blank.
+#[derive(Clone, Copy)]
+pub struct EchoedWords<'w, 'a>(pub &'w [&'a [u8]]);
+
+impl fmt::Display for EchoedWords<'_, '_> {
+    ghost output = { λ ws. Some (echoed (map (λ x. x.now) ws.0.now)) };
+
+    fn fmt<W: fmt::Write>(&self, f: &mut fmt::Formatter<W>) -> fmt::Result {
+        if let [first, rest @ ..] = self.0 {
+            f.write(EchoedWord(first))?;
+            for word in rest {
+                write!(f, " {}", EchoedWord(word))?;
+            }
+        }
+        Ok(())
     }
-    out.push(' ')?;
-    push_word(out, word)?;
-    Ok(())
 }
 
 // A command's words as they are echoed, joined by one blank.
 pub fn echo(heap: Global, words: &[&[u8]]) -> Result<String, AllocError>
     ensures { IfOk result (λ s. string_bytes s ≡ echoed (map (λ x. x.now) words.now)) }
 {
-    let mut out = String::new(heap);
-    for (i, word) in words.iter().enumerate() {
-        push_next(&mut out, i == 0, word)?;
-    }
-    Ok(out)
+    EchoedWords(words).to_string(heap)
 }

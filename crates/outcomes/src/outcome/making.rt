@@ -45,6 +45,5 @@ pub fn answer<'a>(heap: Global, words: &[&'a [u8]]) -> Result<Outcome, Mistake<'
     ensures { Answers (request_of (map (λ x. x.now) words.now)) result }
 {
     let command = Command::read(heap, words)?;
-    let outcome = carry_out(heap, &command)?;
-    Ok(outcome)
+    Ok(carry_out(heap, &command)?)
 }

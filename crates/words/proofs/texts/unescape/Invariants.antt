@@ -1,10 +1,10 @@
-use Rattle.std.proofs.Common.{◌≡◌, ◌-◌, ◌≤◌, length, drop, vec_items}
+use Rattle.std.proofs.Common.{◌≡◌, length, vec_items}
 use Rattle.words.specs.Texts.{unescaped}
 use Rattle.words.proofs.Pairs.{after}
 use Rattle.words.proofs.texts.unescape.Given as goal
 
-abbrev pub invariant-loop-i : goal.invariant-loop-i
-invariant-loop-i l = (l.i ≤ length l.word) × (after (vec_items l.out) (unescaped (drop l.i l.word)) ≡ unescaped l.word)
+abbrev pub invariant-loop-b : goal.invariant-loop-b
+invariant-loop-b l = after (vec_items l.out) (unescaped l.left) ≡ unescaped l.word
 
-abbrev pub decreases-loop-i : goal.decreases-loop-i
-decreases-loop-i l = length l.word - l.i
+abbrev pub decreases-loop-b : goal.decreases-loop-b
+decreases-loop-b l = length l.left
