@@ -1,16 +1,18 @@
 -- What the tables show after one of their rows has changed.
-use Rattle.std.proofs.Common.{◌≡◌, ℕ, suc, pred, ◌+◌, ◌≤◌, Bool, true, false, cond, not, ◌&&◌, eqb, ltb, List, [], ◌∷◌, length, is_some, Some, None, Option, sym, refl, ap, ◌∙◌, arith, length-set, is_none, position}
+use Rattle.std.proofs.Common.{◌≡◌, ℕ, suc, pred, ◌+◌, ◌≤◌, Bool, true, false, cond, not, ◌&&◌, eqb, ltb, List, [], ◌∷◌, length, is_some, Some, None, Option, sym, refl, ap, ◌∙◌, subst, arith, length-set, is_none, position}
 use Rattle.std.specs.Option.{option_map, option_flatten}
 use Rattle.std.specs.Str.{bytes_eq}
-use Rattle.std.proofs.lemmas.Bool.{false≢true, cond-true, cond-false, and_left, and_right, and_from, lt-ltb, le-ltb, not_from_true, eqb-true}
+use Rattle.std.proofs.lemmas.Bool.{cond-true, cond-false, and_left, and_right, and_from, lt-ltb, le-ltb, eqb-true}
 use Rattle.std.proofs.lemmas.List.Sums.{count_by-le-length}
+use Rattle.std.proofs.lemmas.Bool.Decides.{Decides-eqb}
+use Rattle.std.proofs.lemmas.Slice.Eq.{bytes_eq-Decides}
 use Rattle.table.specs.Lookup.{bears, in_use, placed, row_at, row_found}
 use Rattle.table.specs.Laws.{OneMore, OneLess, Others}
 use Rattle.table.proofs.Places.{length-placed}
 use Rattle.table.proofs.Frees.{full-position}
 use Rattle.table.proofs.Keys.{found-position, lookup-position}
 use Rattle.model.specs.Wafers.{Text, Wafer as Kept}
-use Rattle.model.specs.Places.{Plan, sites, listed, put_text, put_code}
+use Rattle.model.specs.Places.{Plan, put_text, put_code}
 use Rattle.texts.specs.Meaning.{called}
 use Rattle.values.specs.Values.{coded}
 use Rattle.wafers.specs.declared.wafer.Wafer.{Wafer}
@@ -18,9 +20,9 @@ use Rattle.wafers.specs.declared.place.Place.{Place}
 use Rattle.wafers.specs.Held.{held}
 use Rattle.wafers.specs.Spots.{plan, spot_of, occupant_of}
 use Rattle.wafers.specs.Views.{wafer_row, place_row, wafers_of, occupants_of}
-use Rattle.wafers.proofs.Views.{text_put, code_put, code-kept}
-use Rattle.wafers.proofs.Plans.{plan-set, plan-listed}
-use Rattle.cabinet.specs.Views.{View, notes_of, view_of, stored, inserted, removed, occupied_by, noted}
+use Rattle.wafers.proofs.Views.{shown_put}
+use Rattle.wafers.proofs.Plans.{plan-set, plan-sites}
+use Rattle.cabinet.specs.Views.{View, Changed, ChangedAt, notes_of, view_of, stored, inserted, removed}
 
 pub occupied_mapped : {X Y : Type 0} (f : X → Y) (o : Option X) → is_some (option_map f o) ≡ is_some o
 occupied_mapped f None = refl
@@ -48,31 +50,23 @@ module _ {N : Type 0} where
       ap (λ ws. view_of ws places) e ∙ sym (cond-false (is_some (wafers_of wafers (id_of w))) _ _ (registered-at wafers (id_of w) ∙ ap is_some (sym p)))
   stored_shows wafers wafers' places w (Some i) p e u own others =
       wafers_path (wafers_of wafers') (put_text (id_of w) (Some (held w)) (wafers_of wafers)) _ _ _ _ places
-      (text_put (option_map held) (wafer_row wafers') (wafer_row wafers) (id_of w) others (Some w) (own refl)) u (ap length e ∙ length-set wafers i (Some w))
+      (shown_put bytes_eq bytes_eq-Decides (option_map held) (wafer_row wafers') (wafer_row wafers) (id_of w) others (Some w) (own refl)) u (ap length e ∙ length-set wafers i (Some w))
       ∙ sym (cond-true (is_some (wafers_of wafers (id_of w))) _ _ (registered-at wafers (id_of w) ∙ ap is_some (sym p)))
 
   -- a wafer that is registered is not inserted
-  pub known_shows : (wafers : List (Option Wafer)) (places : List (Option (Place N))) (id : Text) (w : Kept) → is_some (position (bears id_of bytes_eq id) wafers) ≡ true → view_of wafers places ≡ inserted id w (view_of wafers places)
+  pub known_shows : (wafers : List (Option Wafer)) (places : List (Option (Place N))) (id : Text) (w : Kept) → is_some (wafer_row wafers id) ≡ true → view_of wafers places ≡ inserted id w (view_of wafers places)
   known_shows wafers places id w h =
-      sym (cond-false (is_none (wafers_of wafers id) && ltb (in_use wafers) (length wafers)) _ _
-      (and_left _ _ (not_from_true _ (registered-at wafers id ∙ h))))
+      sym (cond-false (is_none (wafers_of wafers id) && ltb (in_use wafers) (length wafers)) _ _ (and_left _ _ (ap not (occupied_mapped held (wafer_row wafers id) ∙ h))))
 
   pub inserted_shows : (wafers wafers' : List (Option Wafer)) (places : List (Option (Place N))) (w : Wafer) (r : Option ℕ)
-      → is_some (position (bears id_of bytes_eq (id_of w)) wafers) ≡ false
+      → wafer_row wafers (id_of w) ≡ None
       → r ≡ position is_none wafers → wafers' ≡ placed wafers (Some w) r → OneMore wafers wafers' r
       → (is_some r ≡ true → wafer_row wafers (id_of w) ≡ None → wafer_row wafers' (id_of w) ≡ Some w) → Others id_of bytes_eq (id_of w) wafers wafers'
       → view_of wafers' places ≡ inserted (id_of w) (held w) (view_of wafers places)
   inserted_shows wafers wafers' places w r n p e u own others = go r p e u own
     where
-      absent : is_some (wafer_row wafers (id_of w)) ≡ false
-      absent = found-position id_of bytes_eq wafers (id_of w) ∙ n
-
       unknown : is_none (wafers_of wafers (id_of w)) ≡ true
-      unknown = ap not (occupied_mapped held (wafer_row wafers (id_of w)) ∙ absent)
-
-      none : (o : Option Wafer) → is_some o ≡ false → o ≡ None
-      none None x = refl
-      none (Some v) x = absurd (false≢true (sym x))
+      unknown = ap (λ o. is_none (option_map held o)) n
 
       go : (r : Option ℕ) → r ≡ position is_none wafers → wafers' ≡ placed wafers (Some w) r → OneMore wafers wafers' r
           → (is_some r ≡ true → wafer_row wafers (id_of w) ≡ None → wafer_row wafers' (id_of w) ≡ Some w)
@@ -85,7 +79,7 @@ module _ {N : Type 0} where
           let most : in_use wafers ≤ length wafers = count_by-le-length is_some wafers in
           let open_row : in_use wafers ≡ length wafers → ⊥ = λ x. absurd (some_not_none i (p ∙ (full-position wafers).1 x)) in
           wafers_path (wafers_of wafers') (put_text (id_of w) (Some (held w)) (wafers_of wafers)) (in_use wafers') (suc (in_use wafers)) _ _ places
-          (text_put (option_map held) (wafer_row wafers') (wafer_row wafers) (id_of w) others (Some w) (own refl (none (wafer_row wafers (id_of w)) absent))) (u ∙ omega arith) (ap length e ∙ length-set wafers i (Some w))
+          (shown_put bytes_eq bytes_eq-Decides (option_map held) (wafer_row wafers') (wafer_row wafers) (id_of w) others (Some w) (own refl n)) (u ∙ omega arith) (ap length e ∙ length-set wafers i (Some w))
           ∙ sym (cond-true (is_none (wafers_of wafers (id_of w)) && ltb (in_use wafers) (length wafers)) _ _ (and_from _ _ unknown (lt-ltb (in_use wafers) (length wafers) (omega (arith, most, open_row)))))
         where
           some_not_none : (i : ℕ) → Some i ≡ None → ⊥
@@ -98,7 +92,7 @@ module _ {N : Type 0} where
       ap (λ ws. view_of ws places) u ∙ sym (cond-false (is_some (wafers_of wafers k)) _ _ (occupied_mapped held (wafer_row wafers k) ∙ ap is_some (sym p)))
   removed_shows wafers wafers' places k (Some w) at p e u own others =
       wafers_path (wafers_of wafers') (put_text k None (wafers_of wafers)) (in_use wafers') (pred (in_use wafers)) _ _ places
-      (text_put (option_map held) (wafer_row wafers') (wafer_row wafers) k others None own) (less (in_use wafers') (in_use wafers) u) (ap length e ∙ length-placed wafers None at)
+      (shown_put bytes_eq bytes_eq-Decides (option_map held) (wafer_row wafers') (wafer_row wafers) k others None own) (less (in_use wafers') (in_use wafers) u) (ap length e ∙ length-placed wafers None at)
       ∙ sym (cond-true (is_some (wafers_of wafers k)) _ _ (occupied_mapped held (wafer_row wafers k) ∙ ap is_some (sym p)))
     where
       less : (a b : ℕ) → a + 1 ≡ b → a ≡ pred b
@@ -108,13 +102,6 @@ module _ {N : Type 0} where
 
   abbrev code_of : Place N → ℕ
   code_of p = coded p.code
-
-  -- no place has the code
-  pub unlisted : (places : List (Option (Place N))) (p : ℕ) → place_row places p ≡ None → listed (sites (plan places)) p ≡ false
-  unlisted places p e = plan-listed places p ∙ ap is_some e
-
-  pub is_listed : (places : List (Option (Place N))) (p : ℕ) (q : Place N) → place_row places p ≡ Some q → listed (sites (plan places)) p ≡ true
-  is_listed places p q e = plan-listed places p ∙ ap is_some e
 
   -- another row in the place of one with the same code and kind
   plan-kept : (places places' : List (Option (Place N))) (p : ℕ) (old new : Place N) (r : Option ℕ) → r ≡ position (bears code_of eqb p) places → place_row places p ≡ Some old → places' ≡ placed places (Some new) r → spot_of new ≡ spot_of old → plan places' ≡ plan places
@@ -129,29 +116,26 @@ module _ {N : Type 0} where
   places_path : (wafers : List (Option Wafer)) (o o' : ℕ → Option Text) (ps ps' : Plan) (ns ns' : ℕ → Option N) → o ≡ o' → ps ≡ ps' → ns ≡ ns' → with_places wafers o ps ns ≡ with_places wafers o' ps' ns'
   places_path wafers o o' ps ps' ns ns' a b c = λ i. with_places wafers (a i) (b i) (c i)
 
-  pub occupied_shows : (wafers : List (Option Wafer)) (places places' : List (Option (Place N))) (p : ℕ) (old new : Place N) (r : Option ℕ) (o : Option Text)
-      → r ≡ position (bears code_of eqb p) places → place_row places p ≡ Some old → places' ≡ placed places (Some new) r
-      → place_row places' p ≡ Some new → Others code_of eqb p places places'
-      → spot_of new ≡ spot_of old → occupant_of new ≡ o → new.note ≡ old.note
-      → view_of wafers places' ≡ occupied_by p o (view_of wafers places)
-  occupied_shows wafers places places' p old new r o a b e own others s occ n =
-      places_path wafers (occupants_of places') (put_code p o (occupants_of places)) (plan places') (plan places) (notes_of places') (notes_of places)
-      (code_put (λ q. option_flatten (option_map occupant_of q)) (place_row places') (place_row places) p others (Some new) own ∙ ap (λ x. put_code p x (occupants_of places)) occ)
-      (plan-kept places places' p old new r a b e s)
-      (code-kept (option_map (λ q. q.note)) (place_row places') (place_row places) p others (ap (option_map (λ q. q.note)) own ∙ ap Some n ∙ ap (option_map (λ q. q.note)) (sym b)))
-      ∙ sym (cond-true (listed (sites (plan places)) p) _ _ (is_listed places p old b))
+  -- a place that gave way to another
+  pub changed_shows : (R : Place N → Place N → Type 0) (wafers : List (Option Wafer)) (places places' : List (Option (Place N))) (p : ℕ) (old new : Place N) (r : Option ℕ)
+      → R old new → r ≡ position (bears code_of eqb p) places → place_row places p ≡ Some old → places' ≡ placed places (Some new) r
+      → place_row places' p ≡ Some new → Others code_of eqb p places places' → spot_of new ≡ spot_of old
+      → Changed R p (view_of wafers places) (view_of wafers places')
+  changed_shows R wafers places places' p old new r k a b e own others s =
+      subst (ChangedAt R p (view_of wafers places) (view_of wafers places')) (sym (plan-sites places p ∙ ap (option_map spot_of) b)) (
+        old,
+        new,
+        k,
+        ap (λ q. option_flatten (option_map occupant_of q)) b,
+        ap (option_map (λ q. q.note)) b,
+        places_path wafers (occupants_of places') (put_code p (occupant_of new) (occupants_of places)) (plan places') (plan places) (notes_of places') (put_code p (Some new.note) (notes_of places))
+            (shown_put eqb Decides-eqb (λ q. option_flatten (option_map occupant_of q)) (place_row places') (place_row places) p others (Some new) own)
+            (plan-kept places places' p old new r a b e s)
+            (shown_put eqb Decides-eqb (option_map (λ q. q.note)) (place_row places') (place_row places) p others (Some new) own),
+      )
 
-  pub noted_shows : (wafers : List (Option Wafer)) (places places' : List (Option (Place N))) (p : ℕ) (old new : Place N) (r : Option ℕ) (n : N)
-      → r ≡ position (bears code_of eqb p) places → place_row places p ≡ Some old → places' ≡ placed places (Some new) r
-      → place_row places' p ≡ Some new → Others code_of eqb p places places'
-      → spot_of new ≡ spot_of old → occupant_of new ≡ occupant_of old → new.note ≡ n
-      → view_of wafers places' ≡ noted p n (view_of wafers places)
-  noted_shows wafers places places' p old new r n a b e own others s occ m =
-      places_path wafers (occupants_of places') (occupants_of places) (plan places') (plan places) (notes_of places') (put_code p (Some n) (notes_of places))
-      (code-kept (λ q. option_flatten (option_map occupant_of q)) (place_row places') (place_row places) p others (ap (λ q. option_flatten (option_map occupant_of q)) own ∙ occ ∙ ap (λ q. option_flatten (option_map occupant_of q)) (sym b)))
-      (plan-kept places places' p old new r a b e s)
-      (code_put (option_map (λ q. q.note)) (place_row places') (place_row places) p others (Some new) own ∙ ap (λ x. put_code p (Some x) (notes_of places)) m)
-      ∙ sym (cond-true (listed (sites (plan places)) p) _ _ (is_listed places p old b))
+  pub unchanged_shows : (R : Place N → Place N → Type 0) (wafers : List (Option Wafer)) (places : List (Option (Place N))) (p : ℕ) → place_row places p ≡ None → Changed R p (view_of wafers places) (view_of wafers places)
+  unchanged_shows R wafers places p b = subst (ChangedAt R p (view_of wafers places) (view_of wafers places)) (sym (plan-sites places p ∙ ap (option_map spot_of) b)) refl
 
   -- a row found by its code has the code, and so has one in its place
   pub replaced_key : (places : List (Option (Place N))) (p : ℕ) (old new : Place N) → place_row places p ≡ Some old → spot_of new ≡ spot_of old → coded new.code ≡ p

@@ -1,11 +1,11 @@
 -- What the tables of one party show, and what each change makes of it.
-use Rattle.std.specs.Prelude.{ℕ, suc, pred, cond, ◌&&◌, List, length, Some, None, Option, nat_lt, is_some, is_none}
+use Rattle.std.specs.Prelude.{◌≡◌, ℕ, suc, pred, cond, ◌&&◌, List, length, Some, None, Option, nat_lt, is_some, is_none}
 use Rattle.std.specs.Option.{option_map}
 use Rattle.model.specs.Wafers.{Text, Wafer as Kept}
-use Rattle.model.specs.Places.{Plan, sites, listed, Contents, put_text, put_code}
+use Rattle.model.specs.Places.{Plan, Spot, sites, listed, Contents, put_text, put_code}
 use Rattle.wafers.specs.declared.wafer.Wafer.{Wafer}
 use Rattle.wafers.specs.declared.place.Place.{Place}
-use Rattle.wafers.specs.Spots.{plan}
+use Rattle.wafers.specs.Spots.{occupant_of, plan}
 use Rattle.wafers.specs.Views.{place_row, contents_of}
 use Rattle.cabinet.specs.declared.cabinet.Cabinet.{Cabinet}
 
@@ -53,3 +53,19 @@ noted p n v = cond (listed (sites v.plan) p) (record { contents = v.contents; pl
 -- the place has no occupant; one that is not listed has none anyway
 abbrev pub vacated : {N : Type 0} → ℕ → View N → View N
 vacated p v = with_contents (record { wafer = v.contents.wafer; used = v.contents.used; occupant = put_code p None v.contents.occupant }) v
+
+-- both tables stand over the rows that were lent to them
+abbrev pub SameRows : {N : Type 0} → Cabinet N → Cabinet N → Type 0
+SameRows c c' = (c'.wafers.rows.ghost_name ≡ c.wafers.rows.ghost_name) × (c'.places.rows.ghost_name ≡ c.places.rows.ghost_name)
+
+-- the place has this occupant, and this is noted there
+abbrev pub with_place : {N : Type 0} → ℕ → Option Text → N → View N → View N
+with_place p o n v = record { contents = record { wafer = v.contents.wafer; used = v.contents.used; occupant = put_code p o v.contents.occupant }; plan = v.plan; notes = put_code p (Some n) v.notes; rows = v.rows }
+
+-- the place, if it is listed, gave way to one that the relation allows
+abbrev pub ChangedAt : {N : Type 0} → (Place N → Place N → Type 0) → ℕ → View N → View N → Option Spot → Type 0
+ChangedAt R p v v' None = v' ≡ v
+ChangedAt {N} R p v v' (Some s) = (q r : Place N) × R q r × (v.contents.occupant p ≡ occupant_of q) × (v.notes p ≡ Some q.note) × (v' ≡ with_place p (occupant_of r) r.note v)
+
+abbrev pub Changed : {N : Type 0} → (Place N → Place N → Type 0) → ℕ → View N → View N → Type 0
+Changed R p v v' = ChangedAt R p v v' (sites v.plan p)

@@ -2,7 +2,7 @@ ghost use Rattle.std.specs.Prelude.{◌≡◌};
 ghost use Rattle.cabinet.specs.Refusals.{refusal_number};
 
 // Why a making or a call of the tracker is refused.
-#[derive(Clone, Copy)]
+#[derive(Clone, Copy, Debug, PartialEq, Eq)]
 pub enum Refusal {
     PlaceList = 1,
     RowCount = 2,
@@ -20,10 +20,10 @@ pub enum Refusal {
     NoRoom = 14,
 }
 
-impl Refusal {
-    pub fn number(self) -> u8
-        ensures { result ≡ refusal_number self }
-    {
-        self as u8
+impl From<Refusal> for u8 {
+    ghost from_gives = { λ x r. r ≡ refusal_number x };
+
+    fn from(value: Refusal) -> u8 {
+        value as u8
     }
 }

@@ -3,7 +3,8 @@ use table::row::Row;
 use texts::id::Id;
 use values::code::Code;
 
-// A place of the cabinet, looked up by its code.
+// A place of the cabinet, looked up by its code. The tracker's places and wafers are types of the crate `wafers`:
+// one type for both would be no plainer, since its methods had to stand here, where neither History nor the model is.
 #[derive(Clone, Copy)]
 pub struct Place {
     pub code: Code,

@@ -1,5 +1,5 @@
 -- Given bytes at the front of sixteen zeros.
-use Rattle.std.proofs.Common.{◌≡◌, ℕ, ◌<◌, Bool, true, ◌&&◌, List, [], ◌∷◌, ◌++◌, length, take, drop, replicate, IsAscii, sym, refl, ap, ◌∙◌, arith}
+use Rattle.std.proofs.Common.{◌≡◌, ℕ, ◌<◌, Bool, true, false, ◌&&◌, eqb, List, [], ◌∷◌, ◌++◌, length, take, drop, replicate, IsAscii, sym, refl, ap, ◌∙◌, arith}
 use Rattle.std.proofs.lemmas.List.{take_at, drop-replicate}
 use Rattle.std.proofs.lemmas.Bool.Decides.{nat_tests}
 use Rattle.std.proofs.lemmas.Str.Ascii.{IsAscii-nil, IsAscii-cons}
@@ -12,12 +12,12 @@ front given rest = take_at given rest (length given) refl
 pub cleared : (given : List ℕ) → given ++ drop (length given) (replicate 16 0) ≡ padded (take (length given) (given ++ drop (length given) (replicate 16 0)))
 cleared given = ap (λ xs. given ++ xs) (drop-replicate (length given) 16 0) ∙ ap padded (sym (front given _))
 
-first_graphic : (b : ℕ) (rest : Bool) → (graphic b && rest) ≡ true → (b < 128) × (rest ≡ true)
-first_graphic b rest h = (grind (arith, nat_tests), grind (arith, nat_tests))
+pub first_graphic : (b : ℕ) (rest : Bool) → (graphic b && rest) ≡ true → (eqb b 0 ≡ false) × (b < 128) × (rest ≡ true)
+first_graphic b rest h = (grind (arith, nat_tests), grind (arith, nat_tests), grind (arith, nat_tests))
 
 -- what a text holds is ASCII
 pub graphic_ascii : (bs : List ℕ) → graphic_all bs ≡ true → IsAscii bs
 graphic_ascii [] h = IsAscii-nil
 graphic_ascii (b ∷ bs) h =
     let p = first_graphic b (graphic_all bs) h in
-    IsAscii-cons b bs p.0 (graphic_ascii bs p.1)
+    IsAscii-cons b bs p.1 (graphic_ascii bs p.2)

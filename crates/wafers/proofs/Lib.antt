@@ -1,4 +1,3 @@
-pub mod Fronts
 pub mod Going
 pub mod Plans
 pub mod Views

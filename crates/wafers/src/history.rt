@@ -4,7 +4,7 @@ use crate::entry::Entry;
 
 pub mod stays;
 
-// Where a wafer has been, oldest first. The entries past the count are not used.
+// Where a wafer has been, oldest first. The entries past the count are not used: the memory is fixed, and there is no heap.
 #[derive(Clone, Copy)]
 pub struct History {
     entries: [Entry; 16],

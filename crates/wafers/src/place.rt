@@ -28,18 +28,12 @@ pub struct Promise {
     pub wafer: Id,
 }
 
-fn spells(text: &Text, bytes: &[u8]) -> bool
-    ensures { result ≡ bytes_eq (spelled text.now) bytes.now }
-{
-    text.as_str().as_bytes() == bytes
-}
-
 impl Promise {
     // Whether it is to the wafer with the given ID; an ID that is not formed as one has no promise.
     pub fn is_to(&self, id: &[u8]) -> bool
         ensures { result ≡ bytes_eq (called self.now.wafer) id.now }
     {
-        spells(&self.wafer.text(), id)
+        self.wafer.text().as_str().as_bytes() == id
     }
 }
 
@@ -90,9 +84,6 @@ impl Place<Option<Promise>> {
     pub fn is_promised_to(&self, id: &[u8]) -> bool
         ensures { result ≡ promised_to (promise_of self.now) id.now }
     {
-        match self.note {
-            Some(promise) => promise.is_to(id),
-            None => false,
-        }
+        self.note.is_some_and(|promise| promise.is_to(id))
     }
 }

@@ -11,27 +11,15 @@ use values::code::Code;
 use values::time::Time;
 
 // The last of the first `count` entries gets its time out, and an open one follows.
-fn continued(entries: [Entry; 16], count: usize, place: Code, time: Time) -> [Entry; 16]
+fn continued(mut entries: [Entry; 16], count: usize, place: Code, time: Time) -> [Entry; 16]
     requires some { 1 ≤ count }
     requires fits { count < 16 }
     ensures whole { length result ≡ 16 }
     ensures stays { map stay (take (count + 1) result) ≡ closed (moment time) (map stay (take count entries)) ++ (stay_opened (coded place) (moment time) ∷ []) }
 {
-    let mut entries = entries;
     entries[count - 1] = entries[count - 1].ended(time);
     entries[count] = Entry::opened(place, time);
     entries
-}
-
-// The entry at an index of the first `count`.
-fn entry_at(entries: &[Entry], count: usize, index: usize) -> Option<Entry>
-    ensures { option_map stay result ≡ slice_get (map stay (take count entries.now)) index }
-{
-    if index < count && index < entries.len() {
-        Some(entries[index])
-    } else {
-        None
-    }
 }
 
 impl History {
@@ -48,38 +36,30 @@ impl History {
         }
     }
 
-    fn size(&self) -> usize
-        ensures count { result ≡ self.now.count }
-        ensures length { result ≡ length (stays self.now) }
-    {
-        self.count
-    }
-
     // How many entries there are.
     pub fn len(&self) -> usize
         ensures { result ≡ length (stays self.now) }
     {
-        self.size()
+        self.count
     }
 
     // The entry at an index, counted from 0, oldest first.
     pub fn entry(&self, index: usize) -> Option<Entry>
         ensures { option_map stay result ≡ slice_get (stays self.now) index }
     {
-        entry_at(&self.entries, self.count, index)
+        self.entries[..self.count].get(index).copied()
     }
 
     // The last entry is ended and one opened at the place; sixteen entries stay as they are.
     pub fn moved_on(self, place: Code, time: Time) -> History
         ensures { stays result ≡ moved_on (at_time (moment time)) (coded place) (stays self) }
     {
-        let count = self.size();
-        if count >= History::MOST {
+        if self.count >= History::MOST {
             return self;
         }
         History {
-            entries: continued(self.entries, count, place, time),
-            count: count + 1,
+            entries: continued(self.entries, self.count, place, time),
+            count: self.count + 1,
         }
     }
 }
