@@ -8,10 +8,6 @@ abbrev pub after : List ℕ → Option (List ℕ) → Option (List ℕ)
 after bs None = None
 after bs (Some cs) = Some (bs ++ cs)
 
-pub after_none : (o : Option (List ℕ)) → after [] o ≡ o
-after_none None = refl
-after_none (Some cs) = refl
-
 pub after_more : (bs : List ℕ) (b : ℕ) (o : Option (List ℕ)) → after bs (before (Some b) o) ≡ after (bs ++ b ∷ []) o
 after_more bs b None = refl
 after_more bs b (Some cs) = ap Some (sym (append_assoc bs (b ∷ []) cs))
