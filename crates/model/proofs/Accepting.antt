@@ -6,11 +6,11 @@ use Rattle.std.proofs.lemmas.Bool.Decides.{nat_tests as testing}
 use Rattle.model.specs.Wafers.{Text, Times, at_time, Wafer}
 use Rattle.model.specs.Places.{Plan, Sites, sites, listed, Contents, put_code}
 use Rattle.model.specs.Switches.{Switches}
-use Rattle.model.specs.Rows.{Leg, Change, row8, row10, row11, row12, row13, row14, row17, row18, row19, row20, row21, Exit, row7, row9, Row, enter, move, leave, change, can_from, after, place_of, effect}
+use Rattle.model.specs.Rows.{Leg, Change, row10, row12, row13, row14, row17, row19, row21, Exit, row7, row9, Row, enter, move, leave, change, can_from, after, place_of, effect}
 use Rattle.model.specs.Steps.{Step, takes, tells, can_all, perform}
 use Rattle.model.specs.Calls.{Promise, Grant, Tracker, Service, start, skip, read_failed, proceed, cancel, unload, correct, missing, end, read, Call, register, lift, set_down, put_back, serve, fitting, processing_of, promised_to, granted, initial_reading, destination_of, registering, moving, losing, leaving, ending_row, serving, served, steps_of, time_of, times_of, promise_after, Check, first_failed, needs_no_grant, well_ended, checks_of, room_refused, or_else, refusal, due}
 use Rattle.model.specs.Runs.{Each, Housed, Sound}
-use Rattle.model.proofs.Basics.{same_true, same_refl, same_false, some_none, some_same, vacant-none}
+use Rattle.model.proofs.Basics.{same_true, same_refl, same_false, some_none, some_same, vacant-none, neither, changed_stays}
 use Rattle.model.proofs.Performing.{own_wafer, told_places, tells-listed, rooms}
 use Rattle.model.proofs.Promises.{to, Ready, Kept, moving-can, avoid_all, ready_other, mild_change, mild_all, ready_mild, granted-listed}
 
@@ -43,22 +43,18 @@ plain_all id [] = true
 plain_all id (takes i r ∷ ss) = (bytes_eq i id && plain r) && plain_all id ss
 plain_all id (tells p o ∷ ss) = plain_all id ss
 
-never : (a b : Bool) → ((a && false) && b) ≡ true → ⊥
-never true b h = false≢true h
-never false b h = false≢true h
-
 plain_avoids : (id : Text) (q : ℕ) (ss : List Step) → plain_all id ss ≡ true → avoid_all id q ss ≡ true
 plain_avoids id q [] h = refl
-plain_avoids id q (takes i (enter p d) ∷ ss) h = absurd (never _ _ h)
-plain_avoids id q (takes i (move l p) ∷ ss) h = absurd (never _ _ h)
+plain_avoids id q (takes i (enter p d) ∷ ss) h = absurd (neither _ _ h)
+plain_avoids id q (takes i (move l p) ∷ ss) h = absurd (neither _ _ h)
 plain_avoids id q (takes i (leave e) ∷ ss) h = let u = and_parts _ _ h in and_from _ _ u.0 (plain_avoids id q ss u.1)
 plain_avoids id q (takes i (change g) ∷ ss) h = let u = and_parts _ _ h in and_from _ _ u.0 (plain_avoids id q ss u.1)
 plain_avoids id q (tells p o ∷ ss) h = plain_avoids id q ss h
 
 plain_rooms : (id : Text) (m u : ℕ) (ss : List Step) → plain_all id ss ≡ true → rooms m u ss ≡ true
 plain_rooms id m u [] h = refl
-plain_rooms id m u (takes i (enter p d) ∷ ss) h = absurd (never _ _ h)
-plain_rooms id m u (takes i (move l p) ∷ ss) h = absurd (never _ _ h)
+plain_rooms id m u (takes i (enter p d) ∷ ss) h = absurd (neither _ _ h)
+plain_rooms id m u (takes i (move l p) ∷ ss) h = absurd (neither _ _ h)
 plain_rooms id m u (takes i (leave e) ∷ ss) h = plain_rooms id m (pred u) ss (and_parts _ _ h).1
 plain_rooms id m u (takes i (change g) ∷ ss) h = plain_rooms id m u ss (and_parts _ _ h).1
 plain_rooms id m u (tells p o ∷ ss) h = plain_rooms id m u ss h
@@ -310,17 +306,7 @@ change-place t id g c = ap place_of (own_wafer t id (change g) c) ∙ stays (c.w
   where
     stays : (o : Option Wafer) (g : Change) → place_of (after t o (change g)) ≡ place_of o
     stays None g = refl
-    stays (Some w) row8 = refl
-    stays (Some w) (row10 r) = refl
-    stays (Some w) row11 = refl
-    stays (Some w) (row12 p) = refl
-    stays (Some w) row13 = refl
-    stays (Some w) (row14 p) = refl
-    stays (Some w) (row17 a) = refl
-    stays (Some w) (row18 a) = refl
-    stays (Some w) (row19 a) = refl
-    stays (Some w) row20 = refl
-    stays (Some w) row21 = refl
+    stays (Some w) g = (changed_stays g w).0
 
 leaving-told : (t : Times) (id : Text) (from : ℕ) (e : Exit) (c : Contents) (occ : ℕ → Option Text) (p : ℕ) → place_of (c.wafer id) ≡ from → c.occupant p ≡ occ p → told_places (leaving id from e) occ p ≡ (perform t c (leaving id from e)).occupant p
 leaving-told t id from e c occ p a b = ap (λ o. cond (eqb p from) None o) (sym b) ∙ ap (λ (f : ℕ). cond (eqb p f) None (c.occupant p)) (sym a)

@@ -1,9 +1,10 @@
 -- Texts that are the same, places that are there, tests that come apart.
-use Rattle.std.proofs.Common.{◌≡◌, ℕ, Bool, true, false, ◌⊎◌, Some, None, Option, refl, ap, inl, inr, arith, is_some, is_none}
+use Rattle.std.proofs.Common.{◌≡◌, ℕ, Bool, true, false, ◌&&◌, ◌⊎◌, Some, None, Option, refl, ap, inl, inr, arith, is_some, is_none}
 use Rattle.std.specs.Str.{bytes_eq}
 use Rattle.std.proofs.lemmas.Slice.Eq.{bytes_eq-Decides}
 use Rattle.std.proofs.lemmas.Bool.{false≢true, both_ways}
-use Rattle.model.specs.Wafers.{Text}
+use Rattle.model.specs.Wafers.{Text, Wafer}
+use Rattle.model.specs.Rows.{Change, row8, row10, row11, row12, row13, row14, row17, row18, row19, row20, row21, changed}
 
 pub same_true : (a b : Text) → bytes_eq a b ≡ true → a ≡ b
 same_true a b e = (bytes_eq-Decides a b).0 e
@@ -41,3 +42,21 @@ none-vacant o e = ap is_none e
 pub occupied_some : {A : Type 0} (o : Option A) → is_some o ≡ true → (a : A) × (o ≡ Some a)
 occupied_some None e = absurd (false≢true e)
 occupied_some (Some a) e = (a, refl)
+
+pub neither : (a b : Bool) → ((a && false) && b) ≡ true → ⊥
+neither true b h = false≢true h
+neither false b h = false≢true h
+
+-- a change leaves the wafer where it is, and its history as it was
+pub changed_stays : (g : Change) (w : Wafer) → ((changed g w).place ≡ w.place) × ((changed g w).history ≡ w.history)
+changed_stays row8 w = (refl, refl)
+changed_stays (row10 r) w = (refl, refl)
+changed_stays row11 w = (refl, refl)
+changed_stays (row12 p) w = (refl, refl)
+changed_stays row13 w = (refl, refl)
+changed_stays (row14 p) w = (refl, refl)
+changed_stays (row17 a) w = (refl, refl)
+changed_stays (row18 a) w = (refl, refl)
+changed_stays (row19 a) w = (refl, refl)
+changed_stays row20 w = (refl, refl)
+changed_stays row21 w = (refl, refl)

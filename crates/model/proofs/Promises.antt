@@ -1,5 +1,5 @@
 -- A promised place stays one to which its wafer can go.
-use Rattle.std.proofs.Common.{◌≡◌, ℕ, Bool, true, false, not, ◌&&◌, ◌||◌, eqb, ltb, List, [], ◌∷◌, Some, None, Option, sym, refl, ap, ◌∙◌, arith, is_some}
+use Rattle.std.proofs.Common.{◌≡◌, ℕ, Bool, true, false, not, ◌&&◌, ◌||◌, eqb, ltb, List, [], ◌∷◌, length, Some, None, Option, sym, refl, ap, ◌∙◌, arith, is_some}
 use Rattle.std.specs.Str.{bytes_eq}
 use Rattle.std.proofs.lemmas.Bool.{false≢true, and_parts, and_from, or_left, or_right, eqb-true, cond-false}
 use Rattle.std.proofs.lemmas.Bool.Decides.{nat_tests as testing}
@@ -8,7 +8,7 @@ use Rattle.model.specs.Places.{Plan, Sites, sites, listed, Contents}
 use Rattle.model.specs.Rows.{Leg, row2, row3, row4, row5, row6, from_transport, leads, fits, complete, steady, Change, row8, row10, row11, row12, row13, row14, row17, row18, row19, row20, row21, may_change, changed, Row, enter, move, leave, change, can, can_from, after, place_of, occupant_after, effect}
 use Rattle.model.specs.Steps.{Step, takes, tells, can_all, perform}
 use Rattle.model.specs.Calls.{Promise, first_leg, fitting, entries_of, promised_to, granted, moving}
-use Rattle.model.proofs.Basics.{same_true, same_refl, none-vacant, occupied_some}
+use Rattle.model.proofs.Basics.{same_true, same_refl, none-vacant, occupied_some, neither, changed_stays}
 use Rattle.model.proofs.Performing.{own_wafer}
 
 abbrev pub to : Text → Option Promise
@@ -170,42 +170,17 @@ mild_goes at id w q (row19 a) m h k = k
 mild_goes at id w q row20 m h k = k
 mild_goes at id w q row21 m h k = k
 
-mild_short : (w : Wafer) (g : Change) → entries_of (Some (changed g w)) ≡ entries_of (Some w)
-mild_short w row8 = refl
-mild_short w (row10 r) = refl
-mild_short w row11 = refl
-mild_short w (row12 p) = refl
-mild_short w row13 = refl
-mild_short w (row14 p) = refl
-mild_short w (row17 a) = refl
-mild_short w (row18 a) = refl
-mild_short w (row19 a) = refl
-mild_short w row20 = refl
-mild_short w row21 = refl
-
 ready_change : (at : Sites) (occ : ℕ → Option Text) (id : Text) (t : Times) (q : ℕ) (g : Change) (o : Option Wafer) → mild_change g ≡ true → can_from at occ id o (change g) ≡ true → is_some (fitting at o q) ≡ true → ltb (entries_of o) 16 ≡ true
     → (is_some (fitting at (after t o (change g)) q) ≡ true) × (ltb (entries_of (after t o (change g))) 16 ≡ true)
 ready_change at occ id t q g None m h a b = absurd (false≢true h)
-ready_change at occ id t q g (Some w) m h a b = (mild_goes at id w q g m h a, ap (λ n. ltb n 16) (mild_short w g) ∙ b)
+ready_change at occ id t q g (Some w) m h a b = (mild_goes at id w q g m h a, ap (λ hs. ltb (length hs) 16) (changed_stays g w).1 ∙ b)
 
 -- the promise of the wafer itself
 pub ready_mild : (at : Sites) (id : Text) (t : Times) (q : ℕ) (ss : List Step) (c : Contents) → mild_all id ss ≡ true → can_all at t c ss ≡ true → Ready at c id q → Ready at (perform t c ss) id q
 ready_mild at id t q [] c m h r = r
-ready_mild at id t q (takes i (enter p d) ∷ ss) c m h r = absurd (false≢true (sym (cond_mild (bytes_eq i id) (mild_all id ss)) ∙ m))
-  where
-    cond_mild : (a b : Bool) → ((a && false) && b) ≡ false
-    cond_mild true b = refl
-    cond_mild false b = refl
-ready_mild at id t q (takes i (move l p) ∷ ss) c m h r = absurd (false≢true (sym (cond_mild (bytes_eq i id) (mild_all id ss)) ∙ m))
-  where
-    cond_mild : (a b : Bool) → ((a && false) && b) ≡ false
-    cond_mild true b = refl
-    cond_mild false b = refl
-ready_mild at id t q (takes i (leave e) ∷ ss) c m h r = absurd (false≢true (sym (cond_mild (bytes_eq i id) (mild_all id ss)) ∙ m))
-  where
-    cond_mild : (a b : Bool) → ((a && false) && b) ≡ false
-    cond_mild true b = refl
-    cond_mild false b = refl
+ready_mild at id t q (takes i (enter p d) ∷ ss) c m h r = absurd (neither _ _ m)
+ready_mild at id t q (takes i (move l p) ∷ ss) c m h r = absurd (neither _ _ m)
+ready_mild at id t q (takes i (leave e) ∷ ss) c m h r = absurd (neither _ _ m)
 ready_mild at id t q (takes i (change g) ∷ ss) c m h r =
     let u = and_parts (bytes_eq i id && mild_change g) (mild_all id ss) m in
     let x = and_parts (bytes_eq i id) (mild_change g) u.0 in

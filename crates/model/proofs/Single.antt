@@ -1,5 +1,5 @@
 -- One row: the mirror takes what is reported of it, and the record stays sound.
-use Rattle.std.proofs.Common.{◌≡◌, ℕ, ◌≤◌, Bool, true, false, cond, ltb, List, [], ◌∷◌, ◌++◌, length, Some, None, Option, refl, ap, ◌∙◌, arith}
+use Rattle.std.proofs.Common.{◌≡◌, ℕ, ◌≤◌, Bool, true, false, cond, ltb, List, [], ◌∷◌, ◌++◌, length, Some, None, Option, sym, refl, ap, ◌∙◌, subst, subst₂, arith}
 use Rattle.std.specs.Str.{bytes_eq}
 use Rattle.std.proofs.lemmas.Bool.{false≢true, and_parts, and_from, eq-eqb, le-leb, cond-true}
 use Rattle.std.proofs.lemmas.Bool.Decides.{nat_tests}
@@ -7,11 +7,11 @@ use Rattle.reports.specs.Fields.{Fields}
 use Rattle.model.specs.Wafers.{Text, Times, at_time, Stay, Wafer, opened, closed, moved_on}
 use Rattle.model.specs.Places.{Sites, Contents, put_text, put_code}
 use Rattle.model.specs.Reporting.{substrate_report}
-use Rattle.model.specs.Rows.{row2, row3, row4, row5, row6, Change, row8, row10, row11, row12, row13, row14, row17, row18, row19, row20, row21, changed, row7, row9, Row, enter, move, leave, change, row_number, can, can_from, after, used_after, place_of, occupant_after, effect, told}
+use Rattle.model.specs.Rows.{row2, row3, row4, row5, row6, row8, row10, row11, row12, row13, row14, row17, row18, row19, row20, row21, changed, row7, row9, Row, enter, move, leave, change, row_number, can, can_from, after, used_after, place_of, occupant_after, effect, told}
 use Rattle.model.specs.Mirroring.{Mirror, taken, row_of, matches, has_row, is_step, take_row, intake}
-use Rattle.model.specs.Transitions.{home}
+use Rattle.model.specs.Transitions.{Listed, home}
 use Rattle.model.specs.Runs.{OpenOnlyAt, Housed, Each, NameEachOther, Sound}
-use Rattle.model.proofs.Basics.{same_refl, same_tells, vacant-none, occupied_some}
+use Rattle.model.proofs.Basics.{same_refl, same_tells, vacant-none, occupied_some, changed_stays}
 
 -- the row is read back out of its report
 pub row_read : (at : Sites) (occ : ℕ → Option Text) (id : Text) (x : ℕ) (o : Option Wafer) (r : Row) → can_from at occ id o r ≡ true → row_of (row_number r) (substrate_report (row_number r) (at_time x) id (told (at_time x) o r)) ≡ Some r
@@ -144,35 +144,18 @@ sound_from at c id t (Some w) (leave x) e s h = record {
 sound_from at c id t (Some w) (change g) e s h =
     let y : Housed at w = each_at (Housed at) (c.wafer id) w e (s.housed id) in
     record {
-      linked = linked_like _ _ _ (home-kept id w (changed g w) c.wafer e (place_kept g)) s.linked;
-      housed = each_put (Housed at) id _ c.wafer (housed-kept g y) s.housed;
+      linked = linked_like _ _ _ (home-kept id w (changed g w) c.wafer e place_kept) s.linked;
+      housed = each_put (Housed at) id _ c.wafer (housed-kept y) s.housed;
     }
   where
-    place_kept : (g : Change) → w.place ≡ (changed g w).place
-    place_kept row8 = refl
-    place_kept (row10 r) = refl
-    place_kept row11 = refl
-    place_kept (row12 p) = refl
-    place_kept row13 = refl
-    place_kept (row14 p) = refl
-    place_kept (row17 a) = refl
-    place_kept (row18 a) = refl
-    place_kept (row19 a) = refl
-    place_kept row20 = refl
-    place_kept row21 = refl
+    place_kept : w.place ≡ (changed g w).place
+    place_kept = sym (changed_stays g w).0
 
-    housed-kept : (g : Change) → Housed at w → Housed at (changed g w)
-    housed-kept row8 y = record { listed_place = y.listed_place; open_there = y.open_there }
-    housed-kept (row10 r) y = record { listed_place = y.listed_place; open_there = y.open_there }
-    housed-kept row11 y = record { listed_place = y.listed_place; open_there = y.open_there }
-    housed-kept (row12 p) y = record { listed_place = y.listed_place; open_there = y.open_there }
-    housed-kept row13 y = record { listed_place = y.listed_place; open_there = y.open_there }
-    housed-kept (row14 p) y = record { listed_place = y.listed_place; open_there = y.open_there }
-    housed-kept (row17 a) y = record { listed_place = y.listed_place; open_there = y.open_there }
-    housed-kept (row18 a) y = record { listed_place = y.listed_place; open_there = y.open_there }
-    housed-kept (row19 a) y = record { listed_place = y.listed_place; open_there = y.open_there }
-    housed-kept row20 y = record { listed_place = y.listed_place; open_there = y.open_there }
-    housed-kept row21 y = record { listed_place = y.listed_place; open_there = y.open_there }
+    housed-kept : Housed at w → Housed at (changed g w)
+    housed-kept y = record {
+      listed_place = subst (λ (p : ℕ). Listed at p) place_kept y.listed_place;
+      open_there = subst₂ OpenOnlyAt place_kept (sym (changed_stays g w).1) y.open_there;
+    }
 
 pub sound-row : (at : Sites) (c : Contents) (id : Text) (t : Times) (r : Row) → Sound at c → can at c id r ≡ true → Sound at (effect t id r c)
 sound-row at c id t r s h = sound_from at c id t (c.wafer id) r refl s h

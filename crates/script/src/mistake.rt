@@ -70,7 +70,7 @@ fn all_graphic(word: &[u8]) -> bool
     word.iter().all(|b| b.is_ascii_graphic())
 }
 
-// Why a word is no text.
+// Why a word is no text. A function: a type of its own to print one of two texts would be longer.
 fn no_text(word: &[u8]) -> &'static str
     ensures { result.now ≡ no_text_reason word.now }
 {

@@ -93,7 +93,7 @@ impl<'a> Service<'a> {
 }
 
 // The wafer after a change, if the change is open to it; it stands where it stood.
-fn after(change: Option<Change>, standing: Standing) -> Option<Standing>
+pub(crate) fn after(change: Option<Change>, standing: Standing) -> Option<Standing>
     ensures value { (at : Sites) → Stands at standing → option_map (λ s. held s.wafer) result ≡ went at (called standing.wafer.id) (held standing.wafer) (option_map change_meant change) }
     ensures id { IfSome result (λ s. s.wafer.id ≡ standing.wafer.id) }
     ensures stands { (at : Sites) → Stands at standing → IfSome result (Stands at) }
@@ -108,7 +108,7 @@ fn after(change: Option<Change>, standing: Standing) -> Option<Standing>
 }
 
 // Whether the exit, where there is one, is open to the wafer.
-fn is_free(exit: Option<Exit>, wafer: &Wafer) -> bool
+pub(crate) fn is_free(exit: Option<Exit>, wafer: &Wafer) -> bool
     ensures { result ≡ free_to_go (held wafer.now) (option_map exit_meant exit) }
 {
     exit.is_none_or(|exit| exit.is_open(wafer))

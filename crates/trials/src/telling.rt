@@ -42,12 +42,12 @@ pub fn twice<S: Sink>(sink: &mut S, report: Report)
     let _ = sink.put(report);
 }
 
-// Through that code, what the other one remembers is what the list says. This shows what `twice` does at one kind
-// of sink: a call in its place is no plainer.
+// Through that code, what the other one remembers is what the list says.
 pub fn passes_on<S: Sink>(telling: &mut Telling<S>, report: Report)
     ensures told { told_since (S.list telling.old.sink) (option_map shown telling.old.last) (S.list telling.new.sink) (option_map shown telling.new.last) }
     ensures list { 2 ≤ S.room telling.old.sink → S.list telling.new.sink ≡ S.list telling.old.sink ++ shown report ∷ shown report ∷ [] }
     ensures last { 2 ≤ S.room telling.old.sink → option_map shown telling.new.last ≡ Some (shown report) }
 {
+    // This shows `twice` at one kind of sink: a call of it alone is no plainer.
     twice(telling, report);
 }

@@ -56,7 +56,10 @@ impl Settings {
     pub fn is_silenced(&self, position: usize) -> bool
         ensures { result ≡ (switches self.now).silent position }
     {
-        self.silenced[..self.count].get(position).copied().unwrap_or(false)
+        self.silenced[..self.count]
+            .get(position)
+            .copied()
+            .unwrap_or(false)
     }
 
     // Sets the switch of a position, refused where there is no place at it; then nothing changes.
@@ -65,7 +68,7 @@ impl Settings {
         ensures switches { switches self.new ≡ silenced_at position on (switches self.old) }
         ensures refused { (switches self.old).count ≤ position → self.new ≡ self.old }
     {
-        // An index: with get_mut the proof did not close, since it does not say what the slice is after it.
+        // An index: with get_mut the proof did not close, as the field lent by it stands beside ghost fields.
         if position >= self.count {
             return Err(NoSuchPosition);
         }
