@@ -4,7 +4,7 @@ use texts::text::Text;
 use values::code::Code;
 use values::states::{Processing, Reading, Transport};
 
-// A registered wafer, looked up by its ID.
+// A registered wafer, looked up by its ID. The tracker's has a history too, and is a type of the crate `wafers`: see Place.
 #[derive(Clone, Copy)]
 pub struct Wafer {
     pub id: Id,

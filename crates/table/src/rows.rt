@@ -6,7 +6,8 @@ use crate::row::Row;
 
 pub mod change;
 
-// A table over rows that are lent to it: a free row is a `None`.
+// A table over rows that are lent to it: a free row is a `None`. Each method says for itself, in `lender`, that the rows
+// are still those that were lent: `rows.ghost_name` is as plain as any name for it would be.
 #[derive(Drop)]
 pub struct Table<'a, R: Row> {
     rows: &'a mut [Option<R>],
