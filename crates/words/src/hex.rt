@@ -16,8 +16,10 @@ pub(crate) fn byte(high: u8, low: u8) -> Option<u8>
 }
 
 // The bytes that a word of hex digits writes, two digits for each.
+#[tactic(auto, using(crate::proofs::Written::hex_reads_back))]
 pub fn bytes(heap: Global, word: &[u8]) -> Result<Option<Vec<u8>>, AllocError>
-    ensures { IfOk result (λ o. option_map vec_items o ≡ hex_word word.now) }
+    ensures value { IfOk result (λ o. option_map vec_items o ≡ hex_word word.now) }
+    ensures reads { HexReadsBack }
 {
     let mut out = Vec::new(heap);
     for pair in word.chunks(2) {

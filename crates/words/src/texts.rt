@@ -35,8 +35,10 @@ fn unescape(heap: Global, word: &[u8]) -> Result<Option<Vec<u8>>, AllocError>
 }
 
 // The bytes of a text as a command writes it.
+#[tactic(auto, using(crate::proofs::Written::text_reads_back))]
 pub fn bytes(heap: Global, word: &[u8]) -> Result<Option<Vec<u8>>, AllocError>
-    ensures { IfOk result (λ o. option_map vec_items o ≡ text_word word.now) }
+    ensures value { IfOk result (λ o. option_map vec_items o ≡ text_word word.now) }
+    ensures reads { TextReadsBack }
 {
     if word == b"%-".as_slice() {
         Ok(Some(Vec::new(heap)))

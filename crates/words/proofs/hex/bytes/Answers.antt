@@ -4,14 +4,14 @@ use Rattle.words.specs.Hex.{hex_word}
 use Rattle.words.proofs.Pairs.{after, after_more, pair_read, odd_read, none_read}
 use Rattle.words.proofs.hex.bytes.Goals as goal
 
-pub returns-in_default : goal.returns-in_default
-returns-in_default c =
+pub returns-in_default-clause-value : goal.returns-in_default-clause-value
+returns-in_default-clause-value c =
     let steps = c.in-Some.ensures.steps.1 in
     let size = rw c.loop-pair.invariant.2 at steps.1 in
     odd_read _ _ _ c.loop-pair.invariant.3 _ _ steps.0 size steps.2 (omega arith)
 
-pub returns-in_default-byte : goal.returns-in_default-byte
-returns-in_default-byte c =
+pub returns-in_default-byte-clause-value : goal.returns-in_default-byte-clause-value
+returns-in_default-byte-clause-value c =
     pair_read (vec_items c.loop-pair.out) _ _ c.loop-pair.invariant.3 c.in-Some.pair.now _ None c.in-Some.ensures.steps.1.0 (rw c.loop-pair.invariant.2 at c.in-Some.ensures.steps.1.1) (omega arith) c.in_default-byte.ensures
 
 pub loop-pair-preserved : goal.loop-pair-preserved
@@ -27,5 +27,5 @@ loop-pair-preserved c =
           ∙ pair_read (vec_items c.loop-pair.out) _ _ c.loop-pair.invariant.3 c.in-Some.pair.now rest _ steps.1.0 (rw c.loop-pair.invariant.2 at steps.1.1) (omega arith) c.in-Some-byte.ensures,
     )
 
-pub returns : goal.returns
-returns c = none_read _ _ _ c.loop-pair.invariant.3 c.in-None.ensures.steps.1.0
+pub returns-clause-value : goal.returns-clause-value
+returns-clause-value c = none_read _ _ _ c.loop-pair.invariant.3 c.in-None.ensures.steps.1.0
