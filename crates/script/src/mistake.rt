@@ -98,11 +98,7 @@ impl fmt::Display for Mistake<'_> {
                 } else {
                     "it has a byte outside hex 21 to 7E"
                 };
-                write!(
-                    f,
-                    "{field} '{}' is no text: {reason}",
-                    EchoedWord(word)
-                )
+                write!(f, "{field} '{}' is no text: {reason}", EchoedWord(word))
             }
             Mistake::OddHex(n) => write!(f, "HEX has {n} digits, an odd number"),
             Mistake::NoHex => f.write_str("HEX has a character that is no hex digit"),
