@@ -52,11 +52,3 @@ module _ {N : Type 0} where
   plan-set [] i o e = refl
   plan-set (x ∷ rows) zero o e = ap (λ s. s ∷ plan rows) e
   plan-set (x ∷ rows) (suc i) o e = ap (λ ss. option_map spot_of x ∷ ss) (plan-set rows i o e)
-
--- a place that is promised to a wafer is listed
-pub promised_listed : (rows : List (Option (Place (Option Promise)))) (p : ℕ) (id : Text) → promised_to (promises_of rows p) id ≡ (listed (sites (plan rows)) p && promised_to (promises_of rows p) id)
-promised_listed rows p id = found (place_row rows p) refl
-  where
-    found : (o : Option (Place (Option Promise))) → place_row rows p ≡ o → promised_to (promises_of rows p) id ≡ (listed (sites (plan rows)) p && promised_to (promises_of rows p) id)
-    found None e = simp (plan-listed rows p, e)
-    found (Some r) e = simp (plan-listed rows p, e)
