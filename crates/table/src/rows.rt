@@ -1,4 +1,4 @@
-ghost use Rattle.std.specs.Prelude.{◌≡◌, length, replicate, Some, None, is_none, position};
+ghost use Rattle.std.specs.Prelude.{◌≡◌, length, replicate, None, is_none, position};
 ghost use Rattle.table.specs.Laws.{First, FirstFree, Found, Full, NoneFound, Unknown};
 ghost use Rattle.table.specs.Lookup.{bears, in_use, lookup, Once, row_at, row_found, says};
 

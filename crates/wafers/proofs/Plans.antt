@@ -1,17 +1,14 @@
 -- The plan of the cabinet and the place rows that it is read from.
-use Rattle.std.proofs.Common.{◌≡◌, ℕ, zero, suc, ◌+◌, Bool, true, false, cond, not, ◌&&◌, eqb, ltb, List, [], ◌∷◌, set, Some, None, Option, refl, ap, ◌∙◌, is_some, position}
+use Rattle.std.proofs.Common.{◌≡◌, ℕ, zero, suc, ◌+◌, Bool, true, false, cond, not, eqb, ltb, List, [], ◌∷◌, set, Some, None, Option, refl, ap, ◌∙◌, is_some, position}
 use Rattle.std.specs.List.{position_or_len}
 use Rattle.std.specs.Option.{option_map}
 use Rattle.std.proofs.lemmas.List.{length-map}
 use Rattle.table.specs.Lookup.{bears, row_at}
-use Rattle.model.specs.Calls.{promised_to}
 use Rattle.model.specs.Places.{code_at, index, listed, sites}
-use Rattle.model.specs.Wafers.{Text}
 use Rattle.values.specs.Values.{coded}
 use Rattle.wafers.specs.Spots.{plan, spot_of}
-use Rattle.wafers.specs.Views.{place_row, promises_of}
+use Rattle.wafers.specs.Views.{place_row}
 use Rattle.wafers.specs.declared.place.Place.{Place}
-use Rattle.wafers.specs.declared.place.Promise.{Promise}
 
 either_row : {X Y : Type 0} (f : X → Y) (b : Bool) (x : X) (y : Option Y) (o : Option X) → y ≡ option_map f o → cond b (Some (f x)) y ≡ option_map f (cond b (Some x) o)
 either_row f true x y o e = refl
