@@ -14,6 +14,10 @@ either_row : {X Y : Type 0} (f : X → Y) (b : Bool) (x : X) (y : Option Y) (o :
 either_row f true x y o e = refl
 either_row f false x y o e = e
 
+pub occupied_mapped : {X Y : Type 0} (f : X → Y) (o : Option X) → is_some (option_map f o) ≡ is_some o
+occupied_mapped f None = refl
+occupied_mapped f (Some x) = refl
+
 module _ {N : Type 0} where
   -- the place with a code, by the plan and by the rows
   pub plan-sites : (rows : List (Option (Place N))) (p : ℕ) → sites (plan rows) p ≡ option_map spot_of (place_row rows p)
@@ -22,11 +26,7 @@ module _ {N : Type 0} where
   plan-sites (Some r ∷ rows) p = either_row spot_of (eqb (coded r.code) p) r (sites (plan rows) p) (place_row rows p) (plan-sites rows p)
 
   pub plan-listed : (rows : List (Option (Place N))) (p : ℕ) → listed (sites (plan rows)) p ≡ is_some (place_row rows p)
-  plan-listed rows p = ap is_some (plan-sites rows p) ∙ in_both (place_row rows p)
-    where
-      in_both : (o : Option (Place N)) → is_some (option_map spot_of o) ≡ is_some o
-      in_both None = refl
-      in_both (Some r) = refl
+  plan-listed rows p = ap is_some (plan-sites rows p) ∙ occupied_mapped spot_of (place_row rows p)
 
   -- the position of a code, which is that of its switch
   pub plan-index : (rows : List (Option (Place N))) (p : ℕ) → index (plan rows) p ≡ position (bears (λ r. coded r.code) eqb p) rows
