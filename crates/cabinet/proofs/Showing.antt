@@ -5,10 +5,11 @@ use Rattle.std.specs.Str.{bytes_eq}
 use Rattle.std.proofs.lemmas.Bool.{cond-true, cond-false, and_left, and_right, and_from, lt-ltb, le-ltb, eqb-true}
 use Rattle.std.proofs.lemmas.List.Sums.{count_by-le-length}
 use Rattle.std.proofs.lemmas.Bool.Decides.{Decides-eqb}
+use Rattle.std.proofs.lemmas.Option.{none-some, same_Some}
 use Rattle.std.proofs.lemmas.Slice.Eq.{bytes_eq-Decides}
 use Rattle.table.specs.Lookup.{bears, in_use, placed, row_at, row_found}
-use Rattle.table.specs.Laws.{OneMore, OneLess, Others}
-use Rattle.table.proofs.Places.{length-placed}
+use Rattle.table.specs.Laws.{NoneFound, OneMore, OneLess, Others}
+use Rattle.table.proofs.Places.{length-placed, vacant-none}
 use Rattle.table.proofs.Frees.{full-position}
 use Rattle.table.proofs.Keys.{found-position, lookup-position}
 use Rattle.model.specs.Wafers.{Text, Wafer as Kept}
@@ -21,12 +22,8 @@ use Rattle.wafers.specs.Held.{held}
 use Rattle.wafers.specs.Spots.{plan, spot_of, occupant_of}
 use Rattle.wafers.specs.Views.{wafer_row, place_row, wafers_of, occupants_of}
 use Rattle.wafers.proofs.Views.{shown_put}
-use Rattle.wafers.proofs.Plans.{plan-set, plan-sites}
+use Rattle.wafers.proofs.Plans.{occupied_mapped, plan-set, plan-sites}
 use Rattle.cabinet.specs.Views.{View, Changed, ChangedAt, notes_of, view_of, stored, inserted, removed}
-
-pub occupied_mapped : {X Y : Type 0} (f : X → Y) (o : Option X) → is_some (option_map f o) ≡ is_some o
-occupied_mapped f None = refl
-occupied_mapped f (Some x) = refl
 
 abbrev id_of : Wafer → Text
 id_of w = called w.id
@@ -34,6 +31,10 @@ id_of w = called w.id
 -- whether a wafer is registered, by the position found for it
 pub registered-at : (rows : List (Option Wafer)) (k : Text) → is_some (wafers_of rows k) ≡ is_some (position (bears id_of bytes_eq k) rows)
 registered-at rows k = occupied_mapped held (wafer_row rows k) ∙ found-position id_of bytes_eq rows k
+
+-- a wafer that is found at no position is not registered
+pub absent : (rows : List (Option Wafer)) (k m : Text) (r : Option ℕ) → m ≡ k → NoneFound id_of bytes_eq m rows r → is_some r ≡ false → wafer_row rows k ≡ None
+absent rows k m r e n s = subst (λ t. wafer_row rows t ≡ None) e (n.1 (vacant-none r (ap not s)))
 
 module _ {N : Type 0} where
   abbrev with_wafers : (Text → Option Kept) → ℕ → ℕ → List (Option (Place N)) → View N
@@ -77,13 +78,10 @@ module _ {N : Type 0} where
           ∙ sym (cond-false (is_none (wafers_of wafers (id_of w)) && ltb (in_use wafers) (length wafers)) _ _ (and_right (is_none (wafers_of wafers (id_of w))) (ltb (in_use wafers) (length wafers)) (le-ltb (in_use wafers) (length wafers) (omega arith))))
       go (Some i) p e u own =
           let most : in_use wafers ≤ length wafers = count_by-le-length is_some wafers in
-          let open_row : in_use wafers ≡ length wafers → ⊥ = λ x. absurd (some_not_none i (p ∙ (full-position wafers).1 x)) in
+          let open_row : in_use wafers ≡ length wafers → ⊥ = λ x. absurd (none-some i (sym (p ∙ (full-position wafers).1 x))) in
           wafers_path (wafers_of wafers') (put_text (id_of w) (Some (held w)) (wafers_of wafers)) (in_use wafers') (suc (in_use wafers)) _ _ places
           (shown_put bytes_eq bytes_eq-Decides (option_map held) (wafer_row wafers') (wafer_row wafers) (id_of w) others (Some w) (own refl n)) (u ∙ omega arith) (ap length e ∙ length-set wafers i (Some w))
           ∙ sym (cond-true (is_none (wafers_of wafers (id_of w)) && ltb (in_use wafers) (length wafers)) _ _ (and_from _ _ unknown (lt-ltb (in_use wafers) (length wafers) (omega (arith, most, open_row)))))
-        where
-          some_not_none : (i : ℕ) → Some i ≡ None → ⊥
-          some_not_none i x = let z : ◌≡◌ {A = ℕ} 0 1 = cc in omega arith
 
   pub removed_shows : (wafers wafers' : List (Option Wafer)) (places : List (Option (Place N))) (k : Text) (r : Option Wafer) (at : Option ℕ)
       → r ≡ wafer_row wafers k → wafers' ≡ placed wafers None at → OneLess wafers wafers' r → wafer_row wafers' k ≡ None → Others id_of bytes_eq k wafers wafers'
@@ -138,22 +136,16 @@ module _ {N : Type 0} where
   unchanged_shows R wafers places p b = subst (ChangedAt R p (view_of wafers places) (view_of wafers places)) (sym (plan-sites places p ∙ ap (option_map spot_of) b)) refl
 
   -- a row found by its code has the code, and so has one in its place
-  pub replaced_key : (places : List (Option (Place N))) (p : ℕ) (old new : Place N) → place_row places p ≡ Some old → spot_of new ≡ spot_of old → coded new.code ≡ p
-  replaced_key places p old new e s = ap (λ x. x.code) s ∙ found_code places e
+  pub replaced_key : (places : List (Option (Place N))) (p : ℕ) (o : Option (Place N)) (old new : Place N) → o ≡ place_row places p → o ≡ Some old → spot_of new ≡ spot_of old → (place_row places p ≡ Some old) × (coded new.code ≡ p)
+  replaced_key places p o old new v e s = (sym v ∙ e, ap (λ x. x.code) s ∙ found_code places (sym v ∙ e))
     where
       found_code : (places : List (Option (Place N))) → place_row places p ≡ Some old → coded old.code ≡ p
-      found_code [] e = absurd (none_some e)
-        where
-          none_some : None ≡ Some old → ⊥
-          none_some e = let z : ◌≡◌ {A = ℕ} 0 1 = cc in omega arith
+      found_code [] e = absurd (none-some old e)
       found_code (None ∷ places) e = found_code places e
       found_code (Some q ∷ places) e = go (eqb (coded q.code) p) refl (found_code places) e
         where
           go : (b : Bool) → eqb (coded q.code) p ≡ b → (place_row places p ≡ Some old → coded old.code ≡ p) → cond b (Some q) (place_row places p) ≡ Some old → coded old.code ≡ p
-          go true x again e = ap (λ (r : Place N). coded r.code) (sym (some_row e)) ∙ eqb-true (coded q.code) p x
-            where
-              some_row : Some q ≡ Some old → q ≡ old
-              some_row e = cc
+          go true x again e = ap (λ (r : Place N). coded r.code) (sym (same_Some q old e)) ∙ eqb-true (coded q.code) p x
           go false x again e = again e
 
   -- a row that is found has a position

@@ -3,6 +3,8 @@ use Rattle.std.proofs.Common.{◌≡◌, ℕ, pred, ◌<◌, ◌≤◌, Bool, tr
 use Rattle.std.specs.Str.{bytes_eq}
 use Rattle.std.proofs.lemmas.Bool.{false≢true, both_ways, not-true, and_parts, and_from, eqb-true, leb-true, ltb-true, lt-ltb}
 use Rattle.std.proofs.lemmas.Bool.Decides.{nat_tests as testing}
+use Rattle.std.proofs.lemmas.Option.{none-some, same_Some}
+use Rattle.table.proofs.Places.{vacant-none}
 use Rattle.model.specs.Wafers.{Text, Times, at_time, Wafer}
 use Rattle.model.specs.Places.{Plan, Sites, sites, listed, Contents, put_code}
 use Rattle.model.specs.Switches.{Switches}
@@ -10,7 +12,7 @@ use Rattle.model.specs.Rows.{Leg, Change, row10, row12, row13, row14, row17, row
 use Rattle.model.specs.Steps.{Step, takes, tells, can_all, perform}
 use Rattle.model.specs.Calls.{Promise, Grant, Tracker, Service, start, skip, read_failed, proceed, cancel, unload, correct, missing, end, read, Call, register, lift, set_down, put_back, serve, fitting, processing_of, promised_to, granted, initial_reading, destination_of, registering, moving, losing, leaving, ending_row, serving, served, steps_of, time_of, times_of, promise_after, Check, first_failed, needs_no_grant, well_ended, checks_of, room_refused, or_else, refusal, due}
 use Rattle.model.specs.Runs.{Each, Housed, Sound}
-use Rattle.model.proofs.Basics.{same_true, same_refl, same_false, some_none, some_same, vacant-none, neither, changed_stays}
+use Rattle.model.proofs.Basics.{same_true, same_refl, same_false, neither, changed_stays}
 use Rattle.model.proofs.Performing.{own_wafer, told_places, tells-listed, rooms}
 use Rattle.model.proofs.Promises.{to, Ready, Kept, moving-can, avoid_all, ready_other, mild_change, mild_all, ready_mild, granted-listed}
 
@@ -25,11 +27,11 @@ passes (c ∷ cs) e = go c.passes refl (λ x. passes cs x) e
   where
     go : (b : Bool) → c.passes ≡ b → (first_failed cs ≡ None → Passes cs) → cond b (first_failed cs) (Some c.number) ≡ None → (c.passes ≡ true) × Passes cs
     go true x again e = (x, again e)
-    go false x again e = some_none _ c.number e
+    go false x again e = absurd (none-some c.number (sym e))
 
 none_failed : (a b : Option ℕ) → or_else a b ≡ None → a ≡ None
 none_failed None b e = refl
-none_failed (Some n) b e = some_none _ n e
+none_failed (Some n) b e = absurd (none-some n (sym e))
 
 -- steps that neither register nor move
 abbrev plain : Row → Bool
@@ -143,11 +145,11 @@ kept_less at c f q k = record {
     back r i e = go (eqb r q) e
       where
         go : (b : Bool) → cond b None (f r) ≡ to i → f r ≡ to i
-        go true e = some_none _ (record { wafer = i }) (sym e)
+        go true e = absurd (none-some _ e)
         go false e = e
 
 wafer_same : (a b : Text) → to a ≡ to b → a ≡ b
-wafer_same a b e = ap (λ (p : Promise). p.wafer) (some_same (record { wafer = a }) (record { wafer = b }) e)
+wafer_same a b e = ap (λ (p : Promise). p.wafer) (same_Some (record { wafer = a }) (record { wafer = b }) e)
 
 -- q becomes promised to id, to which nothing was
 kept_more : (ps : Plan) (c : Contents) (f : ℕ → Option Promise) (id : Text) (q : ℕ) → Kept (sites ps) c f → listed (sites ps) q ≡ true → Ready (sites ps) c id q → granted ps f id ≡ false → Kept (sites ps) c (put_code q (to id) f)
@@ -216,7 +218,7 @@ register_ok id p d x ps n m h t nm s k c =
     apart q i a v = go (eqb q p) refl
       where
         go : (b : Bool) → eqb q p ≡ b → not b ≡ true
-        go true z = some_none _ (record { wafer = i }) (sym a ∙ ap t.promise (eqb-true q p z) ∙ vacant-none (t.promise p) v)
+        go true z = absurd (none-some _ (sym (sym a ∙ ap t.promise (eqb-true q p z) ∙ vacant-none (t.promise p) v)))
         go false z = refl
 
 lift_ok : (id : Text) (q x : ℕ) → Answered (lift id q x)
@@ -291,7 +293,7 @@ set_down_ok g x ps n m h t nm s k c =
     apart r i a b = go (eqb r q) refl b
       where
         go : (z : Bool) → eqb r q ≡ z → cond z None (t.promise r) ≡ to i → (bytes_eq i id ≡ false) × (not z ≡ true)
-        go true z b = some_none _ (record { wafer = i }) (sym b)
+        go true z b = absurd (none-some _ b)
         go false z b = (same_false i id (λ y. both_ways _ z (same_place (k.once r q id (b ∙ ap to y) a))), refl)
           where
             same_place : r ≡ q → eqb r q ≡ true

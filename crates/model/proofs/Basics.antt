@@ -1,5 +1,5 @@
 -- Texts that are the same, places that are there, tests that come apart.
-use Rattle.std.proofs.Common.{◌≡◌, ℕ, Bool, true, false, ◌&&◌, ◌⊎◌, Some, None, Option, refl, ap, inl, inr, arith, is_some, is_none}
+use Rattle.std.proofs.Common.{◌≡◌, Bool, true, false, ◌&&◌, ◌⊎◌, Some, None, Option, refl, ap, inl, inr, is_some, is_none}
 use Rattle.std.specs.Str.{bytes_eq}
 use Rattle.std.proofs.lemmas.Slice.Eq.{bytes_eq-Decides}
 use Rattle.std.proofs.lemmas.Bool.{false≢true, both_ways}
@@ -25,16 +25,6 @@ same_tells a b = go (bytes_eq a b) refl
     go : (t : Bool) → bytes_eq a b ≡ t → ((bytes_eq a b ≡ true) × (a ≡ b)) ⊎ ((bytes_eq a b ≡ false) × (a ≡ b → ⊥))
     go true e = inl (e, same_true a b e)
     go false e = inr (e, λ p. both_ways _ e ((bytes_eq-Decides a b).1 p))
-
-pub some_none : {A : Type 0} (B : Type 0) (a : A) → Some a ≡ None → B
-some_none B a e = let z : ◌≡◌ {A = ℕ} 0 1 = cc in absurd (let y : ⊥ = omega arith in y)
-
-pub some_same : {A : Type 0} (a b : A) → Some a ≡ Some b → a ≡ b
-some_same a b e = cc
-
-pub vacant-none : {A : Type 0} (o : Option A) → is_none o ≡ true → o ≡ None
-vacant-none None e = refl
-vacant-none (Some a) e = absurd (false≢true e)
 
 pub none-vacant : {A : Type 0} (o : Option A) → o ≡ None → is_none o ≡ true
 none-vacant o e = ap is_none e

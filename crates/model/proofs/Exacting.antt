@@ -2,6 +2,7 @@
 use Rattle.std.proofs.Common.{◌≡◌, ℕ, ◌<◌, ◌≤◌, Bool, true, false, cond, not, ◌&&◌, ◌||◌, eqb, ltb, leb, ◌⊎◌, List, [], ◌∷◌, ◌++◌, length, Some, None, Option, sym, refl, ap, ◌∙◌, subst, subst₂, inl, inr, ⊎_elim, arith, is_some}
 use Rattle.std.proofs.lemmas.Bool.{false≢true, both_ways, not-true, and_parts, and_from, and_cases, and_left, and_right, eqb-true, eqb-false, eq-eqb, ne_eqb, cond-true, cond-false}
 use Rattle.std.proofs.lemmas.Bool.Decides.{nat_tests as testing}
+use Rattle.std.proofs.lemmas.Option.{none-some, same_Some}
 use Rattle.reports.specs.Bounds.{blank}
 use Rattle.texts.specs.Form.{named}
 use Rattle.model.specs.Wafers.{Text, at_time, Wafer}
@@ -14,7 +15,6 @@ use Rattle.model.specs.Steps.{Step, takes, can_all}
 use Rattle.model.specs.Calls.{Tracker, Service, start, skip, read_failed, proceed, cancel, unload, correct, missing, end, read, Call, register, lift, set_down, put_back, serve, done, refused, fitting, processing_of, entries_of, granted, leaving, reading_row, ending_row, served, Check, check, first_failed, timely, open_at, needs_no_grant, well_read, is_outcome, well_ended, checks_of, due, room_refused, or_else, refusal, answer_of, resolved, outcome}
 use Rattle.model.specs.Transitions.{Other, Complete, Way, row_2, row_3, row_4, row_5, row_6, Takes}
 use Rattle.model.specs.Exact.{PassesBelow, Fits, FitsTo, FitsWith, RowFits, NoOutcome, Stuck, TenIsExact, OneRowAtMost}
-use Rattle.model.proofs.Basics.{some_none, some_same}
 use Rattle.model.proofs.Single.{row_read}
 use Rattle.model.proofs.Worded.{goes_from, from_goes, can-takes, takes-can}
 use Rattle.model.proofs.Performing.{own_wafer}
@@ -31,12 +31,12 @@ Higher n [] = Unit {0}
 Higher n (c ∷ cs) = (n < c.number) × Higher n cs
 
 higher_never : (n : ℕ) (cs : List Check) → Higher n cs → first_failed cs ≡ Some n → ⊥
-higher_never n [] h e = some_none ⊥ n (sym e)
+higher_never n [] h e = none-some n e
 higher_never n (c ∷ cs) h e = go c.passes (λ x. higher_never n cs h.1 x) h.0 e
   where
     go : (b : Bool) → (first_failed cs ≡ Some n → ⊥) → n < c.number → cond b (first_failed cs) (Some c.number) ≡ Some n → ⊥
     go true again l e = again e
-    go false again l e = let z : c.number ≡ n = some_same c.number n e in omega arith
+    go false again l e = let z : c.number ≡ n = same_Some c.number n e in omega arith
 
 higher_passes : (n : ℕ) (cs : List Check) → Higher n cs → PassesBelow n cs
 higher_passes n [] h = tt
@@ -59,7 +59,7 @@ fails_at n b post (c ∷ pre) l h e = go c.passes refl (λ x. fails_at n b post 
     go : (a : Bool) → c.passes ≡ a → (first_failed rest ≡ Some n → PassesBelow n rest × (b ≡ false)) → c.number < n → cond a (first_failed rest) (Some c.number) ≡ Some n
         → ((c.number < n → c.passes ≡ true) × PassesBelow n rest) × (b ≡ false)
     go true x again k e = let u = again e in ((λ y. x, u.0), u.1)
-    go false x again k e = let z : c.number ≡ n = some_same c.number n e in absurd (omega arith)
+    go false x again k e = let z : c.number ≡ n = same_Some c.number n e in absurd (omega arith)
 
 at_fails : (n : ℕ) (b : Bool) (post pre : List Check) → Lower n pre → PassesBelow n (pre ++ (check n b ∷ post)) → b ≡ false → first_failed (pre ++ (check n b ∷ post)) ≡ Some n
 at_fails n b post [] l p e = cond-false b (first_failed post) (Some n) e
@@ -88,8 +88,8 @@ not_by_room : (n room : ℕ) → room_refused n room ≡ Some 10 → ⊥
 not_by_room n room e = go (leb n room) e
   where
     go : (b : Bool) → cond {A = Option ℕ} b None (Some 14) ≡ Some 10 → ⊥
-    go true e = some_none ⊥ 10 (sym e)
-    go false e = let z : ◌≡◌ {A = ℕ} 14 10 = some_same 14 10 e in omega arith
+    go true e = none-some 10 e
+    go false e = let z : ◌≡◌ {A = ℕ} 14 10 = same_Some 14 10 e in omega arith
 
 by_check : (a : Option ℕ) (n room : ℕ) → or_else a (room_refused n room) ≡ Some 10 → a ≡ Some 10
 by_check None n room e = absurd (not_by_room n room e)
@@ -114,7 +114,7 @@ row_named at occ id x n o o' k =
 row-can : (at : Sites) (occ : ℕ → Option Text) (id : Text) (x n : ℕ) (o o' : Option Wafer) (r : Row) → Takes at occ (at_time x) id n o o' → row_of n (substrate_report n (at_time x) id (standing o' o)) ≡ Some r → can_from at occ id o r ≡ true
 row-can at occ id x n o o' r k e =
     let u = row_named at occ id x n o o' k in
-    ap (can_from at occ id o) (some_same r u.0 (sym e ∙ u.3)) ∙ u.1
+    ap (can_from at occ id o) (same_Some r u.0 (sym e ∙ u.3)) ∙ u.1
 
 alone : (b : Bool) → b ≡ true → (b && true) ≡ true
 alone b e = and_from b true e refl

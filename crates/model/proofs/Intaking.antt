@@ -2,6 +2,7 @@
 use Rattle.std.proofs.Common.{◌≡◌, ℕ, ◌<◌, ◌≤◌, Bool, true, false, cond, eqb, [], Some, None, Option, sym, refl, ap, ◌∙◌, subst, inl, inr, arith, is_some}
 use Rattle.std.specs.Str.{bytes_eq}
 use Rattle.std.proofs.lemmas.Bool.{true≢false, both_ways, and_parts, and_from, eqb-true, eq-eqb, ne_eqb, leb-true, le-leb, ltb-true, ltb-false, cond-true, cond-false}
+use Rattle.std.proofs.lemmas.Option.{none-some, same_Some}
 use Rattle.reports.specs.Fields.{Fields}
 use Rattle.model.specs.Wafers.{Text, at_time, Wafer}
 use Rattle.model.specs.Places.{Sites, listed, Contents}
@@ -9,7 +10,7 @@ use Rattle.model.specs.Rows.{Leg, row2, row3, row4, row5, row6, leg_number, Chan
 use Rattle.model.specs.Mirroring.{Mirror, when, row_of, matches, has_row, taken, fault, is_step, taken_row, take_row, occupant_told, taken_place, intake, held_after}
 use Rattle.model.specs.Transitions.{Other, Listed, Takes, RowTaken, Shows}
 use Rattle.model.specs.MirrorExact.{Carries, StepsTo, AStep, HasRoom, counted, TookRow, SubstrateExact, TookPlace, LocationExact, IntakeIsExact}
-use Rattle.model.proofs.Basics.{same_true, same_refl, some_none, some_same, occupied_some}
+use Rattle.model.proofs.Basics.{same_true, same_refl, occupied_some}
 use Rattle.model.proofs.Single.{sound-row}
 use Rattle.model.proofs.Worded.{can-takes}
 use Rattle.model.proofs.Performing.{own_wafer, other_wafer, row-taken, shows_told}
@@ -21,7 +22,7 @@ numbered_next : (n k : ℕ) (r s : Row) (other : Option Row) → row_number r �
 numbered_next n k r s other e rest h = go (eqb n k) refl h
   where
     go : (b : Bool) → eqb n k ≡ b → cond b (Some r) other ≡ Some s → row_number s ≡ n
-    go true x h = ap row_number (sym (some_same r s h)) ∙ e ∙ sym (eqb-true n k x)
+    go true x h = ap row_number (sym (same_Some r s h)) ∙ e ∙ sym (eqb-true n k x)
     go false x h = rest h
 
 numbered : (n : ℕ) (f : Fields) (s : Row) → row_of n f ≡ Some s → row_number s ≡ n
@@ -44,7 +45,7 @@ numbered n f s =
     (numbered_next n 18 (change (row18 f.acquired)) s _ refl
     (numbered_next n 19 (change (row19 f.acquired)) s _ refl
     (numbered_next n 20 (change row20) s _ refl
-    (numbered_next n 21 (change row21) s None refl (λ e. some_none _ s (sym e))))))))))))))))))))
+    (numbered_next n 21 (change row21) s None refl (λ e. absurd (none-some s e))))))))))))))))))))
 
 -- it goes by these fields of the report alone
 abbrev row_by : ℕ → ℕ → ℕ → ℕ → ℕ → Text → Option Row
@@ -271,13 +272,13 @@ module _ (at : Sites) (n : ℕ) (m : Mirror) (f : Fields) where
   substrate_exact z = go (row_of f.row f) refl
     where
       go : (o : Option Row) → row_of f.row f ≡ o → SubstrateExact at n m f
-      go None e = no_step (intake-row None z e) (λ s. let u = words_step s.0 s.1 in some_none ⊥ u.0 (sym u.1 ∙ e))
+      go None e = no_step (intake-row None z e) (λ s. let u = words_step s.0 s.1 in none-some u.0 (sym e ∙ u.1))
       go (Some r) e = by (is_step at m f r) refl
         where
           by : (b : Bool) → is_step at m f r ≡ b → SubstrateExact at n m f
           by true h = a_step r e h (intake-row (Some r) z e ∙ cond-true (is_step at m f r) _ _ h)
           by false h = no_step (intake-row (Some r) z e ∙ cond-false (is_step at m f r) _ _ h)
-              (λ s. let u = words_step s.0 s.1 in both_ways _ h (ap (is_step at m f) (some_same r u.0 (sym e ∙ u.1)) ∙ u.2))
+              (λ s. let u = words_step s.0 s.1 in both_ways _ h (ap (is_step at m f) (same_Some r u.0 (sym e ∙ u.1)) ∙ u.2))
 
   took_place : TookPlace m f (taken_place m f)
   took_place = record {

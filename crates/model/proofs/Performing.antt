@@ -3,6 +3,7 @@ use Rattle.std.proofs.Common.{◌≡◌, ℕ, ◌≤◌, Bool, true, false, cond
 use Rattle.std.specs.Str.{bytes_eq}
 use Rattle.std.proofs.lemmas.Bool.{false≢true, and_parts, cond-true, cond-false}
 use Rattle.std.proofs.lemmas.Bool.Decides.{nat_tests as testing}
+use Rattle.std.proofs.lemmas.Option.{none-some, same_Some}
 use Rattle.reports.specs.Fields.{Fields}
 use Rattle.model.specs.Wafers.{Text, Times, at_time, Wafer}
 use Rattle.model.specs.Places.{Sites, listed, Contents, put_code}
@@ -12,7 +13,7 @@ use Rattle.model.specs.Steps.{Step, takes, tells, step_effect, can_step, can_all
 use Rattle.model.specs.Mirroring.{Mirror, Intake, taken, fault, has_row, intake, intake_all, hears, held_after}
 use Rattle.model.specs.Transitions.{Other, home, Takes, RowTaken, Shows, Traced, nothing, location, substrate}
 use Rattle.model.specs.Runs.{NameEachOther, Sound}
-use Rattle.model.proofs.Basics.{same_refl, same_false, some_none, some_same}
+use Rattle.model.proofs.Basics.{same_refl, same_false}
 use Rattle.model.proofs.Single.{mirror-row, sound-row}
 use Rattle.model.proofs.Worded.{can-takes}
 
@@ -34,7 +35,7 @@ module _ (id : Text) (occ occ' : ℕ → Option Text) (place place' : Text → O
           let apart : Other i id = λ x. n (ap place' (sym x) ∙ there) in
           let before : occ p ≡ Some i = (l p i).1 (sym (others i apart) ∙ there) in
           let here : occ p ≡ Some id = (l p id).1 e in
-          absurd (apart (some_same i id (sym before ∙ here)))
+          absurd (apart (same_Some i id (sym before ∙ here)))
 
   stays_same : (p : ℕ) → Other (place id) (Some p) → Other (place' id) (Some p) → occ' p ≡ occ p
   stays_same p n n' = go (occ' p) refl (occ p) refl
@@ -45,7 +46,7 @@ module _ (id : Text) (occ occ' : ℕ → Option Text) (place place' : Text → O
           let there : place i ≡ Some p = (l p i).0 k in
           let apart : Other i id = λ x. n (ap place (sym x) ∙ there) in
           let now : occ' p ≡ Some i = (l' p i).1 (others i apart ∙ there) in
-          some_none _ i (sym now ∙ h)
+          absurd (none-some i (sym h ∙ now))
       go (Some i) h u k =
           let there : place' i ≡ Some p = (l' p i).0 h in
           let apart : Other i id = λ x. n' (ap place' (sym x) ∙ there) in

@@ -3,6 +3,7 @@ use Rattle.std.proofs.Common.{◌≡◌, ℕ, ◌≤◌, Bool, true, false, cond
 use Rattle.std.proofs.lemmas.Bool.{both_ways, false≢true, and_parts, or_parts, or_from, eqb-true, eq-eqb}
 use Rattle.std.proofs.lemmas.List.{append_assoc, append-nil}
 use Rattle.std.proofs.lemmas.List.Quantifiers.{position-Some}
+use Rattle.std.proofs.lemmas.Option.{none-some}
 use Rattle.std.specs.Option.{option_map}
 use Rattle.table.specs.Lookup.{bears, in_use, row_at}
 use Rattle.model.specs.Wafers.{Wafer}
@@ -13,7 +14,6 @@ use Rattle.model.specs.Steps.{Step, perform}
 use Rattle.model.specs.Calls.{Tracker, made_tracker, Call, Answer, steps_of, time_of, times_of, refusal, due, resolved}
 use Rattle.model.specs.Transitions.{Traced, nothing}
 use Rattle.model.specs.Runs.{Event, call, reader, silence, begin, finish, Setup, Matched, World, answers_after, restored, Took, Path, Begun, Reached, names, silences, ever_silenced, BothHold, Each, Sound, Law, ByRows, Along}
-use Rattle.model.proofs.Basics.{some_none}
 use Rattle.model.proofs.Performing.{heard_places, heard_told, Mirrored, mirrored, intake_append, hears-taken, sound_all, traced}
 use Rattle.model.proofs.Promises.{Kept}
 use Rattle.model.proofs.Accepting.{Accepted, accepted}
@@ -223,8 +223,8 @@ first_together s room = record {
   same = refl;
   taken_all = refl;
   in_time = omega arith;
-  sound = record { linked = λ p i. (λ e. some_none _ i (sym e), λ e. some_none _ p (sym e)); housed = λ i. tt };
-  kept = record { target = λ q i e. some_none _ (record { wafer = i }) (sym e); ready = λ q i e. some_none _ (record { wafer = i }) (sym e); once = λ q r i e f. some_none _ (record { wafer = i }) (sym e) };
+  sound = record { linked = λ p i. (λ e. absurd (none-some i e), λ e. absurd (none-some p e)); housed = λ i. tt };
+  kept = record { target = λ q i e. absurd (none-some _ e); ready = λ q i e. absurd (none-some _ e); once = λ q r i e f. absurd (none-some _ e) };
   heard = λ p n. refl;
   loud = λ p n. all_quiet (index s.plan p);
   visited = λ p n. tt;

@@ -4,6 +4,7 @@ use Rattle.std.specs.Str.{bytes_eq}
 use Rattle.std.proofs.lemmas.Bool.{false≢true, and_parts, and_from, eq-eqb, le-leb, cond-true}
 use Rattle.std.proofs.lemmas.Bool.Decides.{nat_tests}
 use Rattle.reports.specs.Fields.{Fields}
+use Rattle.table.proofs.Places.{vacant-none}
 use Rattle.model.specs.Wafers.{Text, Times, at_time, Stay, Wafer, opened, closed, moved_on}
 use Rattle.model.specs.Places.{Sites, Contents, put_text, put_code}
 use Rattle.model.specs.Reporting.{substrate_report}
@@ -11,7 +12,7 @@ use Rattle.model.specs.Rows.{row2, row3, row4, row5, row6, row8, row10, row11, r
 use Rattle.model.specs.Mirroring.{Mirror, taken, row_of, matches, has_row, is_step, take_row, intake}
 use Rattle.model.specs.Transitions.{Listed, home}
 use Rattle.model.specs.Runs.{OpenOnlyAt, Housed, Each, NameEachOther, Sound}
-use Rattle.model.proofs.Basics.{same_refl, same_tells, vacant-none, occupied_some, changed_stays}
+use Rattle.model.proofs.Basics.{same_refl, same_tells, occupied_some, changed_stays}
 
 -- the row is read back out of its report
 pub row_read : (at : Sites) (occ : ℕ → Option Text) (id : Text) (x : ℕ) (o : Option Wafer) (r : Row) → can_from at occ id o r ≡ true → row_of (row_number r) (substrate_report (row_number r) (at_time x) id (told (at_time x) o r)) ≡ Some r

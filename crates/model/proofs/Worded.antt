@@ -3,11 +3,12 @@ use Rattle.std.proofs.Common.{◌≡◌, ℕ, Bool, true, false, not, ◌&&◌, 
 use Rattle.std.proofs.lemmas.Bool.{false≢true, both_ways, not-true, not_from_false, and_parts, and_from, or_cases, or_left, or_right, eqb-true, eq-eqb, ne_eqb, leb-true, le-leb, ltb-true, lt-ltb, cond-true}
 use Rattle.std.proofs.lemmas.Bool.Decides.{nat_tests}
 use Rattle.reports.specs.Bounds.{blank}
+use Rattle.table.proofs.Places.{vacant-none}
 use Rattle.model.specs.Wafers.{Text, Times, Stay, Wafer, with_reading, moved_to}
 use Rattle.model.specs.Places.{Spot, Sites, listed, is_station, station}
 use Rattle.model.specs.Rows.{Leg, row2, row3, row4, row5, row6, leg_number, from_transport, to_transport, leads, fits, complete, steady, reads_as, Change, row8, row10, row11, row12, row13, row14, row17, row18, row19, row20, row21, change_number, may_change, changed, row7, row9, Row, enter, move, leave, change, row_number, can_from, after}
 use Rattle.model.specs.Transitions.{Other, Listed, Station, Complete, Steady, Way, row_2, row_3, row_4, row_5, row_6, Goes, arrived, Takes, row_1, rows_2_to_6, row_7, row_8, row_9, row_10, row_11, row_12, row_13, row_14, row_17, row_18, row_19, row_20, row_21}
-use Rattle.model.proofs.Basics.{same_true, same_false, same_refl, vacant-none, none-vacant, occupied_some}
+use Rattle.model.proofs.Basics.{same_true, same_false, same_refl, none-vacant, occupied_some}
 
 -- a test and the words for it, both ways
 

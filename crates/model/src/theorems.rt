@@ -2,6 +2,7 @@ ghost use Rattle.model.specs.Cases.{WorkedCases};
 ghost use Rattle.model.specs.Exact.{TenIsExact, OneRowAtMost};
 ghost use Rattle.model.specs.Orders.{ReportsInOrder};
 ghost use Rattle.model.specs.MirrorExact.{IntakeIsExact};
+ghost use Rattle.model.specs.Runs.{RunsKeepTheLaw};
 
 /// The worked cases of the rules, on the definitions.
 pub fn worked_cases()
@@ -26,4 +27,9 @@ pub fn reports_in_order()
 /// The mirror takes a report exactly if it is a step, or a location report of a listed place, and refuses every other by its number.
 pub fn intake_is_exact()
     ensures { IntakeIsExact }
+{}
+
+/// From every world that events lead to, a run keeps the law at each of its worlds, and each call's reports are rows of the table.
+pub fn runs_keep_the_law()
+    ensures { RunsKeepTheLaw }
 {}

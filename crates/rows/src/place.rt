@@ -3,8 +3,9 @@ use table::row::Row;
 use texts::id::Id;
 use values::code::Code;
 
-// A place of the cabinet, looked up by its code. The tracker's places and wafers are types of the crate `wafers`:
-// one type for both would be no plainer, since its methods had to stand here, where neither History nor the model is.
+// A place of the cabinet, looked up by its code.
+// One generic type for this and the `Place` of `wafers` is no plainer: that one's methods name the model, which stands above this
+// crate, a method stands in its type's crate, and each has tests and edits of its own.
 #[derive(Clone, Copy)]
 pub struct Place {
     pub code: Code,

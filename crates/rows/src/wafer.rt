@@ -4,7 +4,9 @@ use texts::text::Text;
 use values::code::Code;
 use values::states::{Processing, Reading, Transport};
 
-// A registered wafer, looked up by its ID. The tracker's has a history too, and is a type of the crate `wafers`: see Place.
+// A registered wafer, looked up by its ID.
+// One generic type for this and the `Wafer` of `wafers`, which has a history too, is no plainer: that one's methods name the model,
+// which stands above this crate, a method stands in its type's crate, and each has tests and edits of its own.
 #[derive(Clone, Copy)]
 pub struct Wafer {
     pub id: Id,

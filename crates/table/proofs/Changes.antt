@@ -1,6 +1,7 @@
 -- The laws of a change of one row: what a row at a position gives way to, and what that does to look-ups and counts.
 use Rattle.std.proofs.Common.{◌≡◌, ℕ, zero, suc, ◌<◌, ◌≤◌, Bool, true, false, cond, ◌≢◌, ◌⊎◌, List, length, set, replicate, Some, None, Decides, Option, sym, refl, ap, ◌∙◌, subst, inl, inr, ⊎_elim, arith, get_or-set_other}
 use Rattle.std.proofs.lemmas.List.{length-set, set_past}
+use Rattle.std.proofs.lemmas.Option.{same_Some}
 use Rattle.std.proofs.lemmas.Bool.{cases_Bool, cases_lt, false≢true}
 use Rattle.std.specs.List.{count_by}
 use Rattle.table.specs.Lookup.{bears, lookup, row_at, Stands}
@@ -46,10 +47,7 @@ module _ {R M : Type 0} (says : R → M) (tells : M → M → Bool) (exact : (a 
 
   -- a row that is not the one asked for
   bears_not : (k m : M) → (m ≡ k → ⊥) → (r : R) → says r ≡ k → bears says tells m (Some r) ≡ false
-  bears_not k m n r e = bears_other says tells exact m (Some r) (λ s p q. n (sym q ∙ (ap says (some_same s r p) ∙ e)))
-    where
-      some_same : (s r : R) → Some r ≡ Some s → s ≡ r
-      some_same s r p = cc
+  bears_not k m n r e = bears_other says tells exact m (Some r) (λ s p q. n (sym q ∙ (ap says (same_Some s r (sym p)) ∙ e)))
 
   stands_not : (rows : List (Option R)) (i : ℕ) (k m : M) → (m ≡ k → ⊥) → Stands says rows i k → bears says tells m (row_at rows i) ≡ false
   stands_not rows i k m n (r, e, s) = ap (bears says tells m) e ∙ bears_not k m n r s

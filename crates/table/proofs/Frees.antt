@@ -1,11 +1,11 @@
 -- Free rows and rows in use.
-use Rattle.std.proofs.Common.{◌≡◌, ℕ, ◌+◌, true, cond, List, [], ◌∷◌, length, is_none, is_some, Some, None, Option, refl, ap, arith}
+use Rattle.std.proofs.Common.{◌≡◌, ℕ, ◌+◌, cond, List, [], ◌∷◌, length, is_none, is_some, Some, None, Option, refl, ap, arith}
 use Rattle.std.specs.List.{count_by, position}
-use Rattle.std.proofs.lemmas.Bool.{both_ways, false≢true}
+use Rattle.std.proofs.lemmas.Bool.{both_ways}
 use Rattle.std.proofs.lemmas.List.Sums.{sum_by-cons}
 use Rattle.table.specs.Laws.{FirstFree, Full}
 use Rattle.table.specs.Lookup.{in_use, row_at}
-use Rattle.table.proofs.Places.{Leads, leads-position, count_none, count_some}
+use Rattle.table.proofs.Places.{Leads, leads-position, count_none, count_some, vacant-none}
 
 module _ {R : Type 0} where
   one_kind : (x : Option R) → cond (is_some x) 1 0 + cond (is_none x) 1 0 ≡ 1
@@ -17,13 +17,9 @@ module _ {R : Type 0} where
   all_kinds (x ∷ rows) =
       omega (arith, one_kind x, all_kinds rows, sum_by-cons (λ y. cond (is_some y) 1 0) x rows, sum_by-cons (λ y. cond (is_none y) 1 0) x rows)
 
-  free_none : (x : Option R) → is_none x ≡ true → x ≡ None
-  free_none None t = refl
-  free_none (Some r) t = absurd (false≢true t)
-
   free_leads : (rows : List (Option R)) (r : Option ℕ) → Leads is_none rows r → FirstFree rows r
   free_leads rows None h = λ k l e. both_ways (is_none (row_at rows k)) (h k l) (ap is_none e)
-  free_leads rows (Some i) (l, t, h) = (l, free_none (row_at rows i) t, λ k n e. both_ways (is_none (row_at rows k)) (h k n) (ap is_none e))
+  free_leads rows (Some i) (l, t, h) = (l, vacant-none (row_at rows i) t, λ k n e. both_ways (is_none (row_at rows k)) (h k n) (ap is_none e))
 
   pub free-position : (rows : List (Option R)) → FirstFree rows (position is_none rows)
   free-position rows = free_leads rows (position is_none rows) (leads-position is_none rows)

@@ -1,15 +1,16 @@
 -- What looking up by key gives, before and after one row of the table changes.
-use Rattle.std.proofs.Common.{◌≡◌, ℕ, zero, suc, ◌<◌, Bool, true, false, cond, List, [], ◌∷◌, length, set, is_some, Some, None, Decides, Option, sym, refl, ap, ◌∙◌, subst, ⊎_elim, arith}
+use Rattle.std.proofs.Common.{◌≡◌, ℕ, zero, suc, ◌<◌, Bool, true, false, cond, not, List, [], ◌∷◌, length, set, is_some, Some, None, Decides, Option, sym, refl, ap, ◌∙◌, subst, ⊎_elim, arith}
 use Rattle.std.proofs.lemmas.List.{get_or_past}
+use Rattle.std.proofs.lemmas.Option.{none-some}
 use Rattle.std.proofs.lemmas.Bool.{both_ways, cases_Bool, cases_lt, cond-true, cond-false, false≢true}
 use Rattle.std.specs.List.{count_by, position}
 use Rattle.table.specs.Lookup.{bears, lookup, row_at, row_found, Stands}
 use Rattle.table.specs.Laws.{First, NoneFound}
-use Rattle.table.proofs.Places.{NoneBelow, Leads, leads-position, count_some}
+use Rattle.table.proofs.Places.{NoneBelow, Leads, leads-position, count_some, vacant-none}
 
 -- a row in use stands within the table
 pub within : {R : Type 0} (rows : List (Option R)) (i : ℕ) (r : R) → row_at rows i ≡ Some r → i < length rows
-within [] i r e = let z : ◌≡◌ {A = ℕ} 0 1 = cc in absurd (omega arith)
+within [] i r e = absurd (none-some r e)
 within (x ∷ rows) zero r e = omega arith
 within (x ∷ rows) (suc i) r e = omega (arith, within rows i r e)
 
@@ -42,13 +43,9 @@ module _ {R M : Type 0} (says : R → M) (tells : M → M → Bool) where
 
   pub none-position : (rows : List (Option R)) (m : M) → NoneFound says tells m rows (position (bears says tells m) rows)
   none-position rows m = (
-    (λ e. none_some _ (sym (found-position rows m) ∙ ap is_some e)),
+    (λ e. vacant-none _ (ap not (sym (found-position rows m) ∙ ap is_some e))),
     (λ e. lookup-position rows m ∙ ap (row_found rows) e),
   )
-    where
-      none_some : (r : Option ℕ) → is_some r ≡ false → r ≡ None
-      none_some None e = refl
-      none_some (Some i) e = absurd (false≢true (sym e))
 
   -- no row has a key that is looked up in vain
   pub lookup_below : (rows : List (Option R)) (m : M) → lookup says tells rows m ≡ None → (k : ℕ) → bears says tells m (row_at rows k) ≡ false

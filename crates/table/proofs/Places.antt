@@ -1,7 +1,7 @@
--- Tests on the rows of a table, by position: the first that passes, and how many pass.
-use Rattle.std.proofs.Common.{◌≡◌, ℕ, suc, ◌+◌, ◌<◌, ◌≤◌, Bool, true, false, cond, List, [], ◌∷◌, length, ltb, set, Some, None, Option, refl, ap, arith}
+-- Tests on the rows of a table, by position: the first that passes, and how many pass. Rows that are free.
+use Rattle.std.proofs.Common.{◌≡◌, ℕ, suc, ◌+◌, ◌<◌, ◌≤◌, Bool, true, false, cond, List, [], ◌∷◌, length, ltb, set, Some, None, Option, is_none, refl, ap, arith}
 use Rattle.std.specs.List.{count_by, position, position_or_len}
-use Rattle.std.proofs.lemmas.Bool.{cond_both, ltb-false, ltb-true}
+use Rattle.std.proofs.lemmas.Bool.{cond_both, false≢true, ltb-false, ltb-true}
 use Rattle.std.proofs.lemmas.List.{length-set}
 use Rattle.std.proofs.lemmas.List.Sums.{fails_before_first, get_or-le-sum_by, passes_at_first, sum_by-cons, sum_by-set}
 use Rattle.table.specs.Lookup.{placed, row_at}
@@ -37,6 +37,10 @@ module _ {R : Type 0} (test : Option R → Bool) where
   count_none [] h = refl
   count_none (x ∷ rows) h =
       omega (arith, sum_by-cons (λ y. cond (test y) 1 0) x rows, ap {B = ℕ} (λ b. cond b 1 0) (h 0 (omega arith)), count_none rows (λ k l. h (suc k) (omega arith)))
+
+pub vacant-none : {X : Type 0} (o : Option X) → is_none o ≡ true → o ≡ None
+vacant-none None e = refl
+vacant-none (Some x) e = absurd (false≢true e)
 
 pub length-placed : {X : Type 0} (xs : List X) (x : X) (r : Option ℕ) → length (placed xs x r) ≡ length xs
 length-placed xs x None = refl

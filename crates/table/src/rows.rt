@@ -1,4 +1,4 @@
-ghost use Rattle.std.specs.Prelude.{◌≡◌, length, replicate, Some, None, is_none, position};
+ghost use Rattle.std.specs.Prelude.{◌≡◌, length, replicate, None, is_none, position};
 ghost use Rattle.table.specs.Laws.{First, FirstFree, Found, Full, NoneFound, Unknown};
 ghost use Rattle.table.specs.Lookup.{bears, in_use, lookup, Once, row_at, row_found, says};
 
@@ -19,7 +19,7 @@ fn holds<R: Row>(row: &Option<R>, key: &R::Key) -> bool
     row.is_some_and(|row| row.key() == *key)
 }
 
-// A proof has a chain's value by the contract of the function that returns it, so the two searches are functions.
+// Tried: the chains inside `find` and `free`; the proof did not close, so the two searches are functions.
 fn first_with<R: Row>(rows: &[Option<R>], key: &R::Key) -> Option<usize>
     ensures { result ≡ position (bears (says R.named R.Key.meaning) R.Key.tells (R.Key.meaning key.now)) rows.now }
 {

@@ -1,10 +1,10 @@
 -- The rows of a serving, one after the other.
 use Rattle.std.proofs.Common.{◌≡◌, ℕ, Bool, true, false, cond, ◌&&◌, List, ◌++◌, Some, None, Option, sym, refl, ap, ◌∙◌}
+use Rattle.std.proofs.lemmas.Option.{none-some}
 use Rattle.model.specs.Wafers.{Text, Times, Wafer}
 use Rattle.model.specs.Places.{Sites, Contents}
 use Rattle.model.specs.Rows.{Change as Row, Exit as Gone, Row as Any, change, leave, can, can_from, may_change, changed, after, effect}
 use Rattle.model.specs.Steps.{Step, can_all, perform}
-use Rattle.model.proofs.Basics.{some_none}
 use Rattle.model.proofs.Performing.{own_wafer}
 use Rattle.tracker.specs.Served.{went, free_to_go, change_steps, exit_steps}
 
@@ -21,11 +21,11 @@ module _ (at : Sites) (t : Times) (id : Text) where
 
   -- a change that is not open
   pub cannot : (c : Contents) (w : Wafer) (g : Option Row) (rest : List Step) → c.wafer id ≡ Some w → went at id w g ≡ None → can_all at t c (change_steps id g ++ rest) ≡ false
-  cannot c w None rest e h = some_none _ w h
+  cannot c w None rest e h = absurd (none-some w (sym h))
   cannot c w (Some g) rest e h = ap (λ b. b && can_all at t (effect t id (change g) c) rest) (can_own c w (change g) e ∙ go (may_change at id g w) refl h)
     where
       go : (b : Bool) → may_change at id g w ≡ b → cond b (Some (changed g w)) None ≡ None → b ≡ false
-      go true x h = some_none _ (changed g w) h
+      go true x h = absurd (none-some (changed g w) (sym h))
       go false x h = refl
 
   -- one that is, or none at all
@@ -38,7 +38,7 @@ module _ (at : Sites) (t : Times) (id : Text) where
     where
       go : (b : Bool) → may_change at id g w ≡ b → cond b (Some (changed g w)) None ≡ Some v → (b ≡ true) × (Some (changed g w) ≡ Some v)
       go true x h = (refl, h)
-      go false x h = some_none _ v (sym h)
+      go false x h = absurd (none-some v h)
 
   pub can-leave : (c : Contents) (w : Wafer) (from : ℕ) (e : Option Gone) → c.wafer id ≡ Some w → can_all at t c (exit_steps id from e) ≡ free_to_go w e
   can-leave c w from None h = refl

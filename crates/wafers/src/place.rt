@@ -4,7 +4,7 @@ ghost use Rattle.std.specs.Str.{bytes_eq};
 ghost use Rattle.model.specs.Calls.{promised_to};
 ghost use Rattle.rows.specs.Kinds.{kind_number};
 ghost use Rattle.wafers.specs.Spots.{listed_as, occupant_of, promise_of, spot_of};
-ghost use Rattle.texts.specs.Meaning.{called, spelled};
+ghost use Rattle.texts.specs.Meaning.{called};
 ghost use Rattle.values.specs.Values.{coded};
 
 use rows::kind::Kind;
@@ -14,6 +14,8 @@ use texts::text::Text;
 use values::code::Code;
 
 // A place of the cabinet, looked up by its code. The note is what a party keeps beside the occupant.
+// One generic type for this and the `Place` of `rows` is no plainer: this one's methods name the model, which stands above `rows`,
+// a method stands in its type's crate, and each has tests and edits of its own.
 #[derive(Clone, Copy)]
 pub struct Place<N> {
     pub code: Code,

@@ -16,7 +16,8 @@ use values::time::Time;
 use values::transition::Transition;
 
 impl Wafer {
-    // The report that the wafer, as it stands, took a row.
+    // The report that the wafer, as it stands, took a row. Its eight fields are copied one by one: one struct of them in both types is
+    // no plainer, since each `..self` update of a wafer and each access in `transitions` and `tracker` would go through it.
     pub fn report(&self, transition: Transition, time: Time) -> Report
         ensures { shown result ≡ substrate_report (transition_number transition) (at_time (moment time)) (called self.now.id) (held self.now) }
     {

@@ -14,6 +14,8 @@ use values::states::{Processing, Reading, Transport};
 use values::time::Time;
 
 // A registered wafer, looked up by its ID.
+// One generic type for this and the `Wafer` of `rows` is no plainer: this one's methods name the model, which stands above `rows`,
+// a method stands in its type's crate, and each has tests and edits of its own.
 #[derive(Clone, Copy)]
 pub struct Wafer {
     pub id: Id,

@@ -1,6 +1,6 @@
 ghost use Rattle.std.specs.Prelude.{◌≡◌, IfSome, nat_lt};
 ghost use Rattle.std.specs.Option.{option_map, option_flatten};
-ghost use Rattle.model.specs.Places.{sites, listed, index, station};
+ghost use Rattle.model.specs.Places.{sites, index};
 ghost use Rattle.wafers.specs.Held.{held};
 ghost use Rattle.wafers.specs.Spots.{spot_of, occupant_of};
 ghost use Rattle.texts.specs.Meaning.{called};

@@ -10,7 +10,7 @@ impl<'a, R: Row> Table<'a, R> {
         ensures rows { self.new.rows.now ≡ slice_set self.old.rows.now i row }
         ensures lender { self.new.rows.ghost_name ≡ self.old.rows.ghost_name }
     {
-        // Tried: `if let Some(place) = self.rows.get_mut(i)`; the slice's `get_mut` does not say what the rows become.
+        // Tried: `if let Some(place) = self.rows.get_mut(i)`; the slice's `get_mut` does not say what the rows become, and the proof did not close.
         if i < self.rows.len() {
             self.rows[i] = row;
         }

@@ -1,7 +1,7 @@
-ghost use Rattle.std.specs.Prelude.{◌≡◌, ◌+◌, ◌<◌, ◌≤◌, [], ◌∷◌, ◌++◌, map, length, take};
+ghost use Rattle.std.specs.Prelude.{◌≡◌, [], ◌∷◌, length};
 ghost use Rattle.std.specs.List.{slice_get};
 ghost use Rattle.std.specs.Option.{option_map};
-ghost use Rattle.model.specs.Wafers.{at_time, closed, moved_on, opened as stay_opened};
+ghost use Rattle.model.specs.Wafers.{at_time, moved_on, opened as stay_opened};
 ghost use Rattle.wafers.specs.Stays.{stay, stays};
 ghost use Rattle.values.specs.Values.{coded, moment};
 
@@ -9,18 +9,6 @@ use crate::entry::Entry;
 use crate::history::History;
 use values::code::Code;
 use values::time::Time;
-
-// The last of the first `count` entries gets its time out, and an open one follows.
-fn continued(mut entries: [Entry; 16], count: usize, place: Code, time: Time) -> [Entry; 16]
-    requires some { 1 ≤ count }
-    requires fits { count < 16 }
-    ensures whole { length result ≡ 16 }
-    ensures stays { map stay (take (count + 1) result) ≡ closed (moment time) (map stay (take count entries)) ++ (stay_opened (coded place) (moment time) ∷ []) }
-{
-    entries[count - 1] = entries[count - 1].ended(time);
-    entries[count] = Entry::opened(place, time);
-    entries
-}
 
 impl History {
     // The most entries that a wafer has.
@@ -54,12 +42,15 @@ impl History {
     pub fn moved_on(self, place: Code, time: Time) -> History
         ensures { stays result ≡ moved_on (at_time (moment time)) (coded place) (stays self) }
     {
-        if self.count >= History::MOST {
+        let History { mut entries, count } = self;
+        if count >= History::MOST {
             return self;
         }
+        entries[count - 1] = entries[count - 1].ended(time);
+        entries[count] = Entry::opened(place, time);
         History {
-            entries: continued(self.entries, self.count, place, time),
-            count: self.count + 1,
+            entries,
+            count: count + 1,
         }
     }
 }
