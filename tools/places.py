@@ -3,7 +3,7 @@
 
 Each point of docs/DESIGN-PASS.md has named forms, each found by a pattern over the text of crates/*/src. It prints
 how many places each form has, and with --list each place. A place that carries a reason (a comment line that says
-why it stays, within the three lines above it or on it) is counted as kept.
+why it stays, within the nine lines above it or on it) is counted as kept.
 """
 import glob
 import os
@@ -121,7 +121,7 @@ def places(folder, point):
                     continue
                 at = text.count('\n', 0, m.start()) + 1
                 end = text.count('\n', 0, m.end()) + 1
-                kept = any(REASON.search(x) for x in lines[max(0, at - 5):end])
+                kept = any(REASON.search(x) for x in lines[max(0, at - 10):end])
                 found.append((os.path.relpath(path, folder), at, kept, lines[at - 1].strip()))
         yield form, found
 
