@@ -1,5 +1,5 @@
 // The ten numbers of a report, whatever they are.
-#[derive(Clone, Copy, Debug, PartialEq, Eq)]
+#[derive(Clone, Copy, Debug, Default, PartialEq, Eq)]
 pub struct Numbers {
     pub family: u8,
     pub row: u8,

@@ -1,4 +1,4 @@
-ghost use Rattle.std.specs.Prelude.{◌≡◌, ℕ, ◌^◌, ◌-◌, ◌≤◌, IfSome};
+ghost use Rattle.std.specs.Prelude.{◌≡◌, ℕ, ◌^◌, ◌-◌, ◌≤◌, IfSome, if◌then◌else◌, nat_le, Some, None};
 ghost use Rattle.std.specs.Option.{option_map};
 ghost use Rattle.scan.specs.Numbers.{number_of};
 
@@ -29,9 +29,9 @@ pub trait Unsigned: Sized {
 
     const MOST: u64;
 
-    fn narrow(n: u64) -> Self
-        requires { n ≤ MOST }
-        ensures { value result ≡ n };
+    // The value that is the number, if it holds it.
+    fn narrow(n: u64) -> Option<Self>
+        ensures { option_map value result ≡ (if nat_le n MOST then Some n else None) };
 }
 
 impl Unsigned for u8 {
@@ -41,8 +41,8 @@ impl Unsigned for u8 {
 
     const MOST: u64 = u8::MAX as u64;
 
-    fn narrow(n: u64) -> u8 {
-        n as u8
+    fn narrow(n: u64) -> Option<u8> {
+        u8::try_from(n).ok()
     }
 }
 
@@ -53,8 +53,8 @@ impl Unsigned for u16 {
 
     const MOST: u64 = u16::MAX as u64;
 
-    fn narrow(n: u64) -> u16 {
-        n as u16
+    fn narrow(n: u64) -> Option<u16> {
+        u16::try_from(n).ok()
     }
 }
 
@@ -65,8 +65,8 @@ impl Unsigned for u64 {
 
     const MOST: u64 = u64::MAX;
 
-    fn narrow(n: u64) -> u64 {
-        n
+    fn narrow(n: u64) -> Option<u64> {
+        Some(n)
     }
 }
 
@@ -74,5 +74,5 @@ impl Unsigned for u64 {
 pub fn fitting<T: Unsigned>(word: &[u8]) -> Option<T>
     ensures { option_map T.value result ≡ number_of T.MOST word.now }
 {
-    Some(T::narrow(number(word, T::MOST)?))
+    T::narrow(number(word, T::MOST)?)
 }

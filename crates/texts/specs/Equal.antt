@@ -1,5 +1,6 @@
 -- Texts are equal exactly if they spell the same; the law of keys cites it.
-use Rattle.std.proofs.Common.{◌≡◌, ℕ, ◌-◌, ◌≤◌, ◌&&◌, eqb, List, ◌++◌, length, replicate, take, sym, ap, ◌∙◌, arith}
+use Rattle.std.proofs.Common.{◌≡◌, ℕ, ◌+◌, ◌-◌, ◌≤◌, ◌&&◌, eqb, List, length, replicate, take, sym, ap, ◌∙◌, subst}
+use Rattle.std.proofs.Math.Nat.{add-sub_of_le, le_trans, min-le_left}
 use Rattle.std.specs.Cmp.{both_ways}
 use Rattle.std.specs.Str.{bytes_eq}
 use Rattle.std.proofs.lemmas.Bool.{and_from, and_parts, eq-eqb, eqb-true}
@@ -12,14 +13,13 @@ use Rattle.texts.specs.declared.text.Text.{Text}
 -- the sixteen bytes of a stored text are sixteen
 length-stored : (bs : List ℕ) (n : ℕ) → n ≤ 16 → bs ≡ padded (take n bs) → length bs ≡ 16
 length-stored bs n h e =
-    let t = length-take n bs in
-    let a = length-append (take n bs) (replicate (16 - length (take n bs)) 0) in
-    let r : length (replicate {A = ℕ} (16 - length (take n bs)) 0) ≡ 16 - length (take n bs) = length-replicate (16 - length (take n bs)) 0 in
-    let l : length bs ≡ length (take n bs ++ replicate (16 - length (take n bs)) 0) = ap length e in
-    omega arith
+    ap length e
+    ∙ length-append (take n bs) (replicate (16 - length (take n bs)) 0)
+    ∙ ap (λ m. length (take n bs) + m) (length-replicate (16 - length (take n bs)) 0)
+    ∙ add-sub_of_le (le_trans (subst (λ m. m ≤ n) (sym (length-take n bs)) (min-le_left n (length bs))) h)
 
 pub text_length : (t : Text) → length (spelled t) ≡ t.size
-text_length t = let l = length-stored t.bytes t.size t.fits t.cleared in length-take-le t.size t.bytes (omega arith)
+text_length t = length-take-le t.size t.bytes (subst (λ m. t.size ≤ m) (sym (length-stored t.bytes t.size t.fits t.cleared)) t.fits)
 
 -- the sixteen bytes and the length decide
 pub same_spelled : (a b : Text) → (bytes_eq a.bytes b.bytes && eqb a.size b.size) ≡ bytes_eq (spelled a) (spelled b)

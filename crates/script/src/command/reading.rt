@@ -79,14 +79,9 @@ fn location<'a>(heap: Global, words: &[&'a [u8]]) -> Result<Draft, Mistake<'a>>
         numbers: Numbers {
             family: u8::from(Family::Location),
             row,
-            transport: 0,
-            processing: 0,
-            reading: 0,
-            spare: 0,
             time,
             place,
-            source: 0,
-            destination: 0,
+            ..Numbers::default()
         },
         id,
         acquired: Vec::new(heap),
