@@ -71,6 +71,8 @@ fn answer_lines(heap: Global, words: &[&[u8]]) -> Result<String, AllocError>
     ensures says { IfOk result (λ t. Says (request_of (map (λ x. x.now) words.now)) (string_bytes t)) }
     ensures explains { IfOk result (λ t. IfErr (request_of (map (λ x. x.now) words.now)) (λ e. string_bytes t ≡ indented (codes "error: " ++ fault_text e))) }
 {
+    // A line that finds no memory is answered without its echo, so that mistake goes back as the allocator's error: a From for
+    // it would have to answer for the other mistakes too, and is no plainer.
     match answer(heap, words) {
         Ok(outcome) => OutcomeLines(&outcome).to_string(heap),
         Err(Mistake::NoMemory) => Err(AllocError),
