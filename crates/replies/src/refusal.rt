@@ -50,11 +50,7 @@ impl fmt::Display for LogRefusal {
     fn fmt<W: fmt::Write>(&self, f: &mut fmt::Formatter<W>) -> fmt::Result {
         let report = self.0.report;
         match self.0.fault {
-            LayoutFault::Outside(field) => {
-                let number = u8::from(Reason::OutOfBounds);
-                let field = u8::from(field);
-                write!(f, "refused {number} {field} at {report}")
-            }
+            LayoutFault::Outside(field) => write!(f, "{} at {report}", FieldRefusal(field)),
             LayoutFault::Short => {
                 let number = u8::from(Reason::Short);
                 write!(f, "refused {number} at {report}")

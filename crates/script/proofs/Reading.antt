@@ -1,11 +1,19 @@
 -- The words of a substrate report, read one after the other.
-use Rattle.std.proofs.Common.{◌≡◌, ℕ, List, [], map, length, get_or, slice_index_or, Result, Ok, sym, ap, ◌∙◌, subst, Bor}
+use Rattle.std.proofs.Common.{◌≡◌, ℕ, suc, ◌<◌, ◌≤◌, List, [], ◌∷◌, drop, map, length, get_or, take, ◌-◌, slice_index_or, Result, Ok, sym, ap, ◌∙◌, subst, arith, Bor}
 use Rattle.std.proofs.Math.ListN.{get_or-map}
-use Rattle.std.proofs.lemmas.List.{length-map}
+use Rattle.std.proofs.lemmas.List.{length-map, take_rest}
+use Rattle.std.proofs.lemmas.Slice.Eq.{HasBytesAt, text_from_reads}
 use Rattle.std.proofs.lemmas.Bool.{cond-true, eq-eqb}
 use Rattle.script.specs.declared.mistake.Mistake.{Mistake}
 use Rattle.script.specs.declared.mistake.Mistake.TheVariants.{Nothing, NoCommand, NoKind, Count, Number, Text, OddHex, NoHex, NoMemory}
 use Rattle.script.specs.Requests.{Fault, with, word, substrate_of, substrate_words, Blames}
+
+-- words whose first is k
+pub begins : (k : List ℕ) (ws : List (Bor (List ℕ))) (d : Bor (List ℕ)) → 0 < length ws → length k ≤ length (get_or ws 0 d).now → length (get_or ws 0 d).now < suc (length k) → HasBytesAt (get_or ws 0 d).now 0 k
+    → map (λ x. x.now) ws ≡ k ∷ map (λ x. x.now) (take (length ws - 1) (drop 1 ws))
+begins k [] d some least below bytes = absurd (omega arith)
+begins k (w ∷ ws) d some least below bytes =
+    ap (λ b. b ∷ map (λ x. x.now) ws) (text_from_reads w.now k (omega arith) bytes) ∙ ap (λ l. k ∷ map (λ x. x.now) l) (sym (take_rest (w ∷ ws) 1))
 
 -- what is wrong with a part is wrong with the whole
 pub blamed : {X Y : Type 0} (m : Mistake) (o : Result X Fault) (f : X → Result Y Fault) → Blames m o → Blames m (with o f)

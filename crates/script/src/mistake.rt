@@ -2,7 +2,7 @@ ghost use Rattle.std.specs.Prelude.{◌≡◌, Some};
 ghost use Rattle.std.specs.List.{list_all};
 ghost use Rattle.words.specs.Texts.{graphic};
 ghost use Rattle.script.specs.declared.mistake.Mistake.TheVariants.{NoMemory};
-ghost use Rattle.script.specs.Wording.{wanted, no_text_reason, mistake_text};
+ghost use Rattle.script.specs.Wording.{wanted, mistake_text};
 
 use std::alloc::AllocError;
 use std::fmt;
@@ -63,22 +63,11 @@ impl fmt::Display for Form {
     }
 }
 
-// Whether each byte is from hex 21 to 7E.
+// Whether each byte is from hex 21 to 7E. A function: with the chain in the test the proof did not close.
 fn all_graphic(word: &[u8]) -> bool
     ensures { result ≡ list_all graphic word.now }
 {
     word.iter().all(|b| b.is_ascii_graphic())
-}
-
-// Why a word is no text. A function: a type of its own to print one of two texts would be longer.
-fn no_text(word: &[u8]) -> &'static str
-    ensures { result.now ≡ no_text_reason word.now }
-{
-    if all_graphic(word) {
-        "% stands before two hex digits, or in %- alone"
-    } else {
-        "it has a byte outside hex 21 to 7E"
-    }
 }
 
 impl fmt::Display for Mistake<'_> {
@@ -104,12 +93,12 @@ impl fmt::Display for Mistake<'_> {
                 )
             }
             Mistake::Text(field, word) => {
-                write!(
-                    f,
-                    "{field} '{}' is no text: {}",
-                    EchoedWord(word),
-                    no_text(word)
-                )
+                let reason = if all_graphic(word) {
+                    "% stands before two hex digits, or in %- alone"
+                } else {
+                    "it has a byte outside hex 21 to 7E"
+                };
+                write!(f, "{field} '{}' is no text: {reason}", EchoedWord(word))
             }
             Mistake::OddHex(n) => write!(f, "HEX has {n} digits, an odd number"),
             Mistake::NoHex => f.write_str("HEX has a character that is no hex digit"),

@@ -1,12 +1,15 @@
 -- Switches that are all off.
-use Rattle.std.proofs.Common.{◌≡◌, ℕ, zero, suc, Bool, true, false, cond, ltb, get_or, replicate, refl}
+use Rattle.std.proofs.Common.{◌≡◌, ℕ, zero, suc, Bool, false, List, length, replicate, get_or, refl, ap, ◌∙◌}
+use Rattle.std.proofs.lemmas.List.{length-replicate}
 use Rattle.model.specs.Switches.{Switches, all_off}
 
-off : (m j : ℕ) (t : Bool) → cond t (get_or (replicate m false) j false) false ≡ false
-off m j false = refl
-off zero j true = refl
-off (suc m) zero true = refl
-off (suc m) (suc j) true = off m j true
+off : (n j : ℕ) → get_or (replicate n false) j false ≡ false
+off zero j = refl
+off (suc n) zero = refl
+off (suc n) (suc j) = off n j
 
-pub switches_off : (m n : ℕ) → ◌≡◌ {A = Switches} record { reader = false; count = n; silent = λ j. cond (ltb j n) (get_or (replicate m false) j false) false } (all_off n)
-switches_off m n = λ i. record { reader = false; count = n; silent = λ j. off m j (ltb j n) i }
+abbrev by_list : List Bool → Switches
+by_list bs = record { reader = false; count = length bs; silent = λ j. get_or bs j false }
+
+pub switches_off : (n : ℕ) (bs : List Bool) → bs ≡ replicate n false → by_list bs ≡ all_off n
+switches_off n bs e = ap by_list e ∙ (λ i. record { reader = false; count = length-replicate n false i; silent = λ j. off n j i })

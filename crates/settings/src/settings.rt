@@ -1,14 +1,15 @@
 ghost use Rattle.std.specs.Prelude.{◌≤◌};
+ghost use Rattle.arrayvec.specs.ArrayVec.{array_vec_len};
 
 pub mod switching;
+
+use arrayvec::ArrayVec;
 
 // The reader switch, and a silence switch for each place of the list, by its position.
 #[derive(Drop)]
 pub struct Settings {
     reader: bool,
-    // An array and a count: settings have fixed memory, and there is no heap.
-    silenced: [bool; 128],
-    count: usize,
-    ghost some: { 1 ≤ count },
-    ghost few: { count ≤ 128 },
+    silenced: ArrayVec<bool, 128>,
+    ghost some: { 1 ≤ array_vec_len silenced },
+    ghost few: { array_vec_len silenced ≤ 128 },
 }

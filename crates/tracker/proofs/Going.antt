@@ -1,6 +1,7 @@
 -- The rows of a serving, one after the other.
 use Rattle.std.proofs.Common.{◌≡◌, ℕ, Bool, true, false, cond, ◌&&◌, List, ◌++◌, Some, None, Option, sym, refl, ap, ◌∙◌}
 use Rattle.std.proofs.lemmas.Option.{none-some}
+use Rattle.std.specs.Option.{option_map}
 use Rattle.model.specs.Wafers.{Text, Times, Wafer}
 use Rattle.model.specs.Places.{Sites, Contents}
 use Rattle.model.specs.Rows.{Change as Row, Exit as Gone, Row as Any, change, leave, can, can_from, may_change, changed, after, effect}
@@ -45,16 +46,24 @@ module _ (at : Sites) (t : Times) (id : Text) where
   can-leave c w from (Some e) h = and_end (can at c id (leave e)) ∙ can_own c w (leave e) h
 
   module _ (c : Contents) (w : Wafer) (there : c.wafer id ≡ Some w) (a b : Option Row) (from : ℕ) (e : Option Gone) where
-    pub first_shut : None ≡ went at id w a → false ≡ can_all at t c (change_steps id a ++ (change_steps id b ++ exit_steps id from e))
+    first_shut : None ≡ went at id w a → false ≡ can_all at t c (change_steps id a ++ (change_steps id b ++ exit_steps id from e))
     first_shut h = sym (cannot c w a (change_steps id b ++ exit_steps id from e) there (sym h))
 
-    pub second_shut : (v : Wafer) → Some v ≡ went at id w a → None ≡ went at id v b → false ≡ can_all at t c (change_steps id a ++ (change_steps id b ++ exit_steps id from e))
+    second_shut : (v : Wafer) → Some v ≡ went at id w a → None ≡ went at id v b → false ≡ can_all at t c (change_steps id a ++ (change_steps id b ++ exit_steps id from e))
     second_shut v h k =
         let u = can_on c w v a (change_steps id b ++ exit_steps id from e) there (sym h) in
         sym (u.0 ∙ cannot (perform t c (change_steps id a)) v b (exit_steps id from e) u.1 (sym k))
 
-    pub all_open : (v u : Wafer) → Some v ≡ went at id w a → Some u ≡ went at id v b → free_to_go u e ≡ can_all at t c (change_steps id a ++ (change_steps id b ++ exit_steps id from e))
+    all_open : (v u : Wafer) → Some v ≡ went at id w a → Some u ≡ went at id v b → free_to_go u e ≡ can_all at t c (change_steps id a ++ (change_steps id b ++ exit_steps id from e))
     all_open v u h k =
         let x = can_on c w v a (change_steps id b ++ exit_steps id from e) there (sym h) in
         let y = can_on (perform t c (change_steps id a)) v u b (exit_steps id from e) x.1 (sym k) in
         sym (x.0 ∙ y.0 ∙ can-leave (perform t (perform t c (change_steps id a)) (change_steps id b)) u from e y.1)
+
+    -- two changes and an exit, of which each is looked at where those before it are open
+    pub in_turn : {S : Type 0} (f : S → Wafer) (o p : Option S) (r : Bool) → option_map f o ≡ went at id w a → (o ≡ None → r ≡ false) → ((x : S) → o ≡ Some x → option_map f p ≡ went at id (f x) b)
+        → ((x : S) → o ≡ Some x → p ≡ None → r ≡ false) → ((x y : S) → o ≡ Some x → p ≡ Some y → r ≡ free_to_go (f y) e)
+        → r ≡ can_all at t c (change_steps id a ++ (change_steps id b ++ exit_steps id from e))
+    in_turn f None p r h shut next none some = shut refl ∙ first_shut h
+    in_turn f (Some x) None r h shut next none some = none x refl refl ∙ second_shut (f x) h (next x refl)
+    in_turn f (Some x) (Some y) r h shut next none some = some x y refl refl ∙ all_open (f x) (f y) h (next x refl)

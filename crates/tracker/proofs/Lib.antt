@@ -1,3 +1,1 @@
 pub mod Going
-pub mod Joining
-pub mod Effects

@@ -25,6 +25,8 @@ use wafers::wafer::Wafer;
 #[derive(Clone, Copy, PartialEq, Eq)]
 pub enum Service<'a> {
     Start,
+    // A number and no state: an outcome that end does not take is refused after the time, the ID and the registration,
+    // so a kind that is tested before the call is no plainer.
     End(u8),
     Skip,
     Read(&'a [u8]),
@@ -180,12 +182,8 @@ impl Serving {
     pub(crate) fn is_open(&self, standing: Standing) -> bool
         ensures { (at : Sites) (t : Times) (c : Contents) → Stands at standing → c.wafer (called standing.wafer.id) ≡ Some (held standing.wafer) → result ≡ can_all at t c (serving_steps (called standing.wafer.id) (held standing.wafer).place self.now) }
     {
-        let Some(first) = after(self.first, standing) else {
-            return false;
-        };
-        let Some(second) = after(self.second, first) else {
-            return false;
-        };
-        is_free(self.exit, &second.wafer)
+        after(self.first, standing)
+            .and_then(|first| after(self.second, first))
+            .is_some_and(|second| is_free(self.exit, &second.wafer))
     }
 }

@@ -6,6 +6,7 @@ use packed_log::reading::{LogFault, read_log};
 use reports::raw::Numbers;
 use std::alloc::Global;
 use std::test::Fail;
+use values::field::Field;
 
 // The bytes of the report that wafer A1 was registered.
 fn registered(time: u64) -> Result<[u8; STRIDE], Fail> {
@@ -40,16 +41,13 @@ fn cut_at_every_length(rt: HostRuntime) -> Result<(), Fail> {
     for n in 0..83 {
         let log = read_log(rt.alloc(), &bytes[0..n])?;
         assert!(rt; log.reports.len() == n / 41);
-        match log.fault {
-            None => assert!(rt; n % 41 == 0),
-            Some(fault) => assert!(rt; fault.report == n / 41 + 1 && is_short(fault.fault)),
-        }
+        let fault = LogFault {
+            report: n / 41 + 1,
+            fault: LayoutFault::Short,
+        };
+        assert_eq!(rt; log.fault, (n % 41 != 0).then_some(fault));
     }
     Ok(())
-}
-
-fn is_short(fault: LayoutFault) -> bool {
-    matches!(fault, LayoutFault::Short)
 }
 
 // A spare bit in the second report is found there.
@@ -60,16 +58,10 @@ fn damaged(rt: HostRuntime) -> Result<(), Fail> {
     bytes[42] = 0xF1;
     let log = read_log(rt.alloc(), &bytes)?;
     assert!(rt; log.reports.len() == 1);
-    match log.fault {
-        Some(
-            LogFault {
-                report,
-                fault: LayoutFault::Outside(field),
-            },
-        ) => {
-            assert!(rt; report == 2 && u8::from(field) == 6);
-            Ok(())
-        },
-        _ => Err(Fail::new("a field outside its bounds")),
-    }
+    let fault = LogFault {
+        report: 2,
+        fault: LayoutFault::Outside(Field::Spare),
+    };
+    assert_eq!(rt; log.fault, Some(fault));
+    Ok(())
 }

@@ -1,51 +1,54 @@
 use crate::made::{LOCATION, SUBSTRATE};
 use reports::raw::{Numbers, Raw};
 use reports::report::Report;
+use std::process::Abort;
+use values::field::Field;
 
 const LAST: u64 = 1_099_511_627_775;
 
 // The numbers with another one in a field.
-fn with(base: Numbers, field: u8, value: u64) -> Numbers {
+fn with(base: Numbers, field: Field, value: u64) -> Numbers {
     let byte = (value % 256) as u8;
     let code = (value % 65536) as u16;
     match field {
-        1 => Numbers {
+        Field::Family => Numbers {
             family: byte,
             ..base
         },
-        2 => Numbers { row: byte, ..base },
-        3 => Numbers {
+        Field::Row => Numbers { row: byte, ..base },
+        Field::Transport => Numbers {
             transport: byte,
             ..base
         },
-        4 => Numbers {
+        Field::Processing => Numbers {
             processing: byte,
             ..base
         },
-        5 => Numbers {
+        Field::Reading => Numbers {
             reading: byte,
             ..base
         },
-        6 => Numbers {
+        Field::Spare => Numbers {
             spare: byte,
             ..base
         },
-        7 => Numbers {
+        Field::Time => Numbers {
             time: value,
             ..base
         },
-        8 => Numbers {
+        Field::Place => Numbers {
             place: code,
             ..base
         },
-        9 => Numbers {
+        Field::Source => Numbers {
             source: code,
             ..base
         },
-        _ => Numbers {
+        Field::Destination => Numbers {
             destination: code,
             ..base
         },
+        Field::Id | Field::Acquired => base,
     }
 }
 
@@ -57,94 +60,102 @@ fn raw<'a>(numbers: Numbers, id: &'a [u8], acquired: &'a [u8]) -> Raw<&'a [u8]> 
     }
 }
 
-// The field that is refused, or 0.
-fn refused(raw: Raw<&[u8]>) -> u8 {
-    Report::make(&raw).map_or_else(u8::from, |_| 0)
+fn refused(raw: Raw<&[u8]>) -> Option<Field> {
+    Report::make(&raw).err()
+}
+
+// Each number is refused in its field, or is not.
+fn refuses(rt: &impl Abort, base: Numbers, cases: &[(Field, u64, bool)]) {
+    for (field, value, outside) in cases {
+        assert_eq!(rt;
+            refused(raw(with(base, *field, *value), b"A1", b"")),
+            outside.then_some(*field)
+        );
+    }
 }
 
 // A field, a number in it, and whether that is refused there: each bound, and one past it.
-const SUBSTRATE_CASES: [(u8, u64, bool); 29] = [
-    (1, 2, true),
-    (2, 0, true),
-    (2, 1, false),
-    (2, 14, false),
-    (2, 15, true),
-    (2, 16, true),
-    (2, 17, false),
-    (2, 21, false),
-    (2, 22, true),
-    (3, 2, false),
-    (3, 3, true),
-    (4, 0, false),
-    (4, 7, false),
-    (4, 8, true),
-    (4, 14, true),
-    (4, 15, false),
-    (4, 16, true),
-    (5, 4, false),
-    (5, 5, true),
-    (6, 0, false),
-    (6, 1, true),
-    (7, LAST, false),
-    (7, LAST + 1, true),
-    (8, 0, true),
-    (8, 65535, false),
-    (9, 0, true),
-    (9, 1, false),
-    (10, 0, true),
-    (10, 1, false),
+const SUBSTRATE_CASES: [(Field, u64, bool); 29] = [
+    (Field::Family, 2, true),
+    (Field::Row, 0, true),
+    (Field::Row, 1, false),
+    (Field::Row, 14, false),
+    (Field::Row, 15, true),
+    (Field::Row, 16, true),
+    (Field::Row, 17, false),
+    (Field::Row, 21, false),
+    (Field::Row, 22, true),
+    (Field::Transport, 2, false),
+    (Field::Transport, 3, true),
+    (Field::Processing, 0, false),
+    (Field::Processing, 7, false),
+    (Field::Processing, 8, true),
+    (Field::Processing, 14, true),
+    (Field::Processing, 15, false),
+    (Field::Processing, 16, true),
+    (Field::Reading, 4, false),
+    (Field::Reading, 5, true),
+    (Field::Spare, 0, false),
+    (Field::Spare, 1, true),
+    (Field::Time, LAST, false),
+    (Field::Time, LAST + 1, true),
+    (Field::Place, 0, true),
+    (Field::Place, 65535, false),
+    (Field::Source, 0, true),
+    (Field::Source, 1, false),
+    (Field::Destination, 0, true),
+    (Field::Destination, 1, false),
 ];
 
-const LOCATION_CASES: [(u8, u64, bool); 14] = [
-    (2, 0, true),
-    (2, 1, false),
-    (2, 3, true),
-    (3, 1, true),
-    (4, 15, true),
-    (5, 1, true),
-    (6, 1, true),
-    (7, LAST, false),
-    (7, LAST + 1, true),
-    (8, 0, true),
-    (8, 65535, false),
-    (9, 101, true),
-    (10, 201, true),
-    (10, 0, false),
+const LOCATION_CASES: [(Field, u64, bool); 14] = [
+    (Field::Row, 0, true),
+    (Field::Row, 1, false),
+    (Field::Row, 3, true),
+    (Field::Transport, 1, true),
+    (Field::Processing, 15, true),
+    (Field::Reading, 1, true),
+    (Field::Spare, 1, true),
+    (Field::Time, LAST, false),
+    (Field::Time, LAST + 1, true),
+    (Field::Place, 0, true),
+    (Field::Place, 65535, false),
+    (Field::Source, 101, true),
+    (Field::Destination, 201, true),
+    (Field::Destination, 0, false),
 ];
 
 #[test]
 fn numbers_of_substrate_reports(rt: HostRuntime) {
-    for (field, value, outside) in SUBSTRATE_CASES {
-        assert_eq!(rt;
-            refused(raw(with(SUBSTRATE, field, value), b"A1", b"")),
-            if outside { field } else { 0 }
-        );
-    }
+    refuses(&rt, SUBSTRATE, &SUBSTRATE_CASES);
 }
 
 #[test]
 fn numbers_of_location_reports(rt: HostRuntime) {
-    for (field, value, outside) in LOCATION_CASES {
-        assert_eq!(rt;
-            refused(raw(with(LOCATION, field, value), b"A1", b"")),
-            if outside { field } else { 0 }
-        );
-    }
+    refuses(&rt, LOCATION, &LOCATION_CASES);
 }
 
 #[test]
 fn texts_of_reports(rt: HostRuntime) {
-    let unoccupied = with(LOCATION, 2, 2);
-    assert_eq!(rt; refused(raw(SUBSTRATE, b"", b"")), 11);
+    let unoccupied = with(LOCATION, Field::Row, 2);
+    assert_eq!(rt; refused(raw(SUBSTRATE, b"", b"")), Some(Field::Id));
     assert_eq!(rt;
         refused(raw(SUBSTRATE, b"0123456789ABCDEF", b"0123456789ABCDEF")),
-        0
+        None
     );
-    assert_eq!(rt; refused(raw(SUBSTRATE, b"0123456789ABCDEFG", b"")), 11);
-    assert_eq!(rt; refused(raw(SUBSTRATE, b"A1", b"A 1")), 12);
-    assert_eq!(rt; refused(raw(SUBSTRATE, b"A1", b"0123456789ABCDEFG")), 12);
-    assert_eq!(rt; refused(raw(LOCATION, b"", b"")), 11);
-    assert_eq!(rt; refused(raw(LOCATION, b"A1", b"A1")), 12);
-    assert_eq!(rt; refused(raw(unoccupied, b"A1", b"")), 11);
-    assert_eq!(rt; refused(raw(unoccupied, b"", b"")), 0);
+    assert_eq!(rt;
+        refused(raw(SUBSTRATE, b"0123456789ABCDEFG", b"")),
+        Some(Field::Id)
+    );
+    assert_eq!(rt;
+        refused(raw(SUBSTRATE, b"A1", b"A 1")),
+        Some(Field::Acquired)
+    );
+    assert_eq!(rt;
+        refused(raw(SUBSTRATE, b"A1", b"0123456789ABCDEFG")),
+        Some(Field::Acquired)
+    );
+    assert_eq!(rt; refused(raw(LOCATION, b"", b"")), Some(Field::Id));
+    assert_eq!(rt; refused(raw(LOCATION, b"A1", b"A1")), Some(Field::Acquired));
+    assert_eq!(rt; refused(raw(unoccupied, b"A1", b"")), Some(Field::Id));
+    assert_eq!(rt; refused(raw(unoccupied, b"", b"")), None);
 }

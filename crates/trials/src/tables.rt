@@ -32,13 +32,9 @@ fn wafer(id: &[u8], number: u16) -> Result<Wafer, Fail> {
     })
 }
 
-// The code of the place where a wafer is, or 0.
-fn at(wafers: &Table<Wafer>, id: &[u8]) -> Result<u16, Fail> {
-    Ok(
-        wafers
-            .lookup(&text(id)?)
-            .map_or(0, |wafer| wafer.place.number()),
-    )
+// The code of the place where a wafer is.
+fn at(wafers: &Table<Wafer>, id: &[u8]) -> Result<Option<u16>, Fail> {
+    Ok(wafers.lookup(&text(id)?).map(|wafer| wafer.place.number()))
 }
 
 #[test]
@@ -71,9 +67,9 @@ fn wafers_by_id(rt: HostRuntime) -> Result<(), Fail> {
     let mut table = Table::cleared(&mut rows);
     assert_eq!(rt; table.insert(wafer(b"A1", 101)?), Some(0));
     assert_eq!(rt; table.insert(wafer(b"A12", 102)?), Some(1));
-    assert_eq!(rt; at(&table, b"A1")?, 101);
+    assert_eq!(rt; at(&table, b"A1")?, Some(101));
     assert!(rt; table.remove(&text(b"A1")?).is_some());
-    assert_eq!(rt; at(&table, b"A1")?, 0);
-    assert_eq!(rt; at(&table, b"A12")?, 102);
+    assert_eq!(rt; at(&table, b"A1")?, None);
+    assert_eq!(rt; at(&table, b"A12")?, Some(102));
     Ok(())
 }

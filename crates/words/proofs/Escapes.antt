@@ -1,14 +1,12 @@
 -- A text's word read byte by byte.
 use Rattle.std.proofs.Common.{◌≡◌, ℕ, ◌<◌, Bool, true, false, cond, eqb, List, [], ◌∷◌, length, None, Some, Option, sym, refl, ap, ◌∙◌, arith}
-use Rattle.std.specs.Str.{bytes_eq}
 use Rattle.std.specs.Option.{option_map}
 use Rattle.std.specs.Bool.{then_some}
 use Rattle.std.proofs.lemmas.List.{append-nil}
 use Rattle.words.proofs.Pairs.{after}
-use Rattle.std.proofs.Math.Bool.{and-true, and-false}
-use Rattle.std.proofs.lemmas.Bool.{cond-true, cond-false, ne_eqb}
+use Rattle.std.proofs.lemmas.Bool.{ne_eqb}
 use Rattle.words.specs.Hex.{hex_byte, before}
-use Rattle.words.specs.Texts.{itself, leaving, first_byte, unescaped, is_no_text, text_word}
+use Rattle.words.specs.Texts.{itself, leaving, first_byte, unescaped}
 
 -- what a first byte makes of the word that begins with it
 abbrev pub led : Option (ℕ × List ℕ) → Option (List ℕ)
@@ -28,21 +26,6 @@ led-first_byte [] h = absurd (omega arith)
 led-first_byte (c ∷ []) h = either (eqb c 37) _ _ _ _ refl (one (itself c) [])
 led-first_byte (c ∷ d ∷ []) h = either (eqb c 37) _ _ _ _ refl (one (itself c) (d ∷ []))
 led-first_byte (c ∷ d ∷ e ∷ cs) h = either (eqb c 37) _ _ _ _ (one (hex_byte d e) cs) (one (itself c) (d ∷ e ∷ cs))
-
-is_no_text-eq : (w : List ℕ) → is_no_text w ≡ bytes_eq w (37 ∷ 45 ∷ [])
-is_no_text-eq [] = refl
-is_no_text-eq (c ∷ []) = simp and-false
-is_no_text-eq (c ∷ d ∷ []) = simp and-true
-is_no_text-eq (c ∷ d ∷ e ∷ cs) = simp and-false
-
--- `%-` is the text of no bytes
-pub empty_text : (w : List ℕ) → bytes_eq w (37 ∷ 45 ∷ []) ≡ true → Some [] ≡ text_word w
-unfolding text_word
-empty_text w e = sym (cond-true _ _ _ (is_no_text-eq w ∙ e))
-
-pub other_text : (w : List ℕ) → bytes_eq w (37 ∷ 45 ∷ []) ≡ false → unescaped w ≡ text_word w
-unfolding text_word
-other_text w e = sym (cond-false _ _ _ (is_no_text-eq w ∙ e))
 
 -- where no byte comes first, the word is at its end or is no text
 pub unescaped_end : {V : Type 0} (see : V → List ℕ) (v : V) (word left : List ℕ) → first_byte left ≡ None → after (see v) (unescaped left) ≡ unescaped word → option_map see (then_some (eqb (length left) 0) v) ≡ unescaped word

@@ -1,6 +1,6 @@
 -- A word as the bytes of a text, and back.
 use Rattle.std.specs.Prelude.{ℕ, Bool, true, false, cond, not, ◌&&◌, ◌||◌, List, [], ◌∷◌, ◌++◌, Some, None, Option, ◌==◌, nat_le}
-use Rattle.std.specs.List.{flat_map}
+use Rattle.std.specs.List.{flat_map, list_any}
 use Rattle.words.specs.Hex.{hex_byte, before, hex_pair}
 
 -- hex 21 to 7E
@@ -42,6 +42,10 @@ is_no_text (c ∷ d ∷ e ∷ cs) = false
 -- the bytes that a word stands for: none at `%-`
 unfoldable pub text_word : List ℕ → Option (List ℕ)
 text_word w = cond (is_no_text w) (Some []) (unescaped w)
+
+-- a graphic byte that is not among others stands for itself, and every other one is escaped
+abbrev pub written_byte : List ℕ → ℕ → List ℕ
+written_byte escapes b = cond (graphic b && not (list_any (λ e. e == b) escapes)) (b ∷ []) (37 ∷ hex_pair b)
 
 -- a byte that a word may hold as it is, wherever it stands: graphic, and neither `%` nor `#`
 abbrev pub stands : ℕ → Bool

@@ -3,7 +3,7 @@ ghost use Rattle.std.specs.Option.{option_map};
 ghost use Rattle.std.specs.List.{flat_map};
 ghost use Rattle.std.specs.Fmt.{WritesOnOk};
 ghost use Rattle.words.specs.Hex.{hex_pair};
-ghost use Rattle.words.specs.Texts.{first_byte, unescaped, text_word, escaped, echoed_byte, echoed};
+ghost use Rattle.words.specs.Texts.{first_byte, unescaped, text_word, written_byte, escaped, echoed_byte, echoed};
 ghost use Rattle.words.specs.Laws.{TextReadsBack};
 
 use crate::hex;
@@ -35,15 +35,14 @@ fn unescape(heap: Global, word: &[u8]) -> Result<Option<Vec<u8>>, AllocError>
 }
 
 // The bytes of a text as a command writes it.
-#[tactic(auto, using(crate::proofs::Written::text_reads_back))]
+#[tactic(auto, using(crate::proofs::Written::text_reads_back), unfolding(crate::specs::Texts::text_word))]
 pub fn bytes(heap: Global, word: &[u8]) -> Result<Option<Vec<u8>>, AllocError>
     ensures value { IfOk result (λ o. option_map vec_items o ≡ text_word word.now) }
     ensures reads { TextReadsBack }
 {
-    if word == b"%-".as_slice() {
-        Ok(Some(Vec::new(heap)))
-    } else {
-        unescape(heap, word)
+    match word {
+        b"%-" => Ok(Some(Vec::new(heap))),
+        _ => unescape(heap, word),
     }
 }
 
@@ -59,6 +58,20 @@ fn write_byte<W: fmt::Write>(f: &mut fmt::Formatter<W>, b: u8, stands: bool) -> 
     }
 }
 
+// Writes bytes: a graphic one that is not among the `escapes` as it is, and each other one as `%` and its two hex digits.
+fn write_bytes<W: fmt::Write>(
+    f: &mut fmt::Formatter<W>,
+    bytes: &[u8],
+    escapes: &[u8],
+) -> fmt::Result
+    ensures { WritesOnOk W.write_str_gives f.old result (flat_map (written_byte escapes.now) bytes.now) f.new }
+{
+    for &b in bytes {
+        write_byte(f, b, b.is_ascii_graphic() && !escapes.contains(&b))?;
+    }
+    Ok(())
+}
+
 // The word that stands for the bytes of a text.
 #[derive(Clone, Copy)]
 pub struct TextWord<'a>(pub &'a [u8]);
@@ -70,10 +83,7 @@ impl fmt::Display for TextWord<'_> {
         if self.0.is_empty() {
             return f.write_str("%-");
         }
-        for &b in self.0 {
-            write_byte(f, b, b.is_ascii_graphic() && !matches!(b, b'%' | b'#'))?;
-        }
-        Ok(())
+        write_bytes(f, self.0, b"%#")
     }
 }
 
@@ -93,10 +103,7 @@ impl fmt::Display for EchoedWord<'_> {
     ghost output = { λ w. Some (flat_map echoed_byte w.0.now) };
 
     fn fmt<W: fmt::Write>(&self, f: &mut fmt::Formatter<W>) -> fmt::Result {
-        for &b in self.0 {
-            write_byte(f, b, b.is_ascii_graphic())?;
-        }
-        Ok(())
+        write_bytes(f, self.0, b"")
     }
 }
 

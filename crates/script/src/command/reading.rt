@@ -95,12 +95,10 @@ fn report<'a>(heap: Global, words: &[&'a [u8]]) -> Result<Draft, Mistake<'a>>
     let [kind, rest @ ..] = words else {
         return Err(Mistake::Count(Form::Pack, 0));
     };
-    if *kind == b"substrate".as_slice() {
-        substrate(heap, rest)
-    } else if *kind == b"location".as_slice() {
-        location(heap, rest)
-    } else {
-        Err(Mistake::NoKind(kind))
+    match *kind {
+        b"substrate" => substrate(heap, rest),
+        b"location" => location(heap, rest),
+        _ => Err(Mistake::NoKind(kind)),
     }
 }
 
@@ -123,12 +121,10 @@ impl Command {
         let [name, rest @ ..] = words else {
             return Err(Mistake::Nothing);
         };
-        if *name == b"pack".as_slice() {
-            Ok(Command::Pack(report(heap, rest)?))
-        } else if *name == b"unpack".as_slice() {
-            Ok(Command::Unpack(log(heap, rest)?))
-        } else {
-            Err(Mistake::NoCommand(name))
+        match *name {
+            b"pack" => Ok(Command::Pack(report(heap, rest)?)),
+            b"unpack" => Ok(Command::Unpack(log(heap, rest)?)),
+            _ => Err(Mistake::NoCommand(name)),
         }
     }
 }

@@ -6,6 +6,7 @@ ghost use Rattle.settings.specs.Making.{by_switches, made_for, switch_there};
 ghost use Rattle.settings.specs.Meaning.{switches};
 
 use crate::settings::Settings;
+use arrayvec::ArrayVec;
 
 // No place list has this number of places.
 #[derive(Clone, Copy, Debug, PartialEq, Eq)]
@@ -26,10 +27,11 @@ impl Settings {
         if count == 0 || count > Settings::MOST {
             return Err(NoSuchCount);
         }
+        let mut silenced = ArrayVec::from([false; Settings::MOST]);
+        silenced.truncate(count);
         Ok(Settings {
             reader: false,
-            silenced: [false; Settings::MOST],
-            count,
+            silenced,
         })
     }
 
@@ -37,7 +39,7 @@ impl Settings {
     pub fn count(&self) -> usize
         ensures { result ≡ (switches self.now).count }
     {
-        self.count
+        self.silenced.len()
     }
 
     pub fn reader(&self) -> bool
@@ -56,10 +58,7 @@ impl Settings {
     pub fn is_silenced(&self, position: usize) -> bool
         ensures { result ≡ (switches self.now).silent position }
     {
-        self.silenced[..self.count]
-            .get(position)
-            .copied()
-            .unwrap_or(false)
+        self.silenced.get(position).copied().unwrap_or(false)
     }
 
     // Sets the switch of a position, refused where there is no place at it; then nothing changes.
@@ -68,11 +67,7 @@ impl Settings {
         ensures switches { switches self.new ≡ silenced_at position on (switches self.old) }
         ensures refused { (switches self.old).count ≤ position → self.new ≡ self.old }
     {
-        // An index: with get_mut the proof did not close, as the field lent by it stands beside ghost fields.
-        if position >= self.count {
-            return Err(NoSuchPosition);
-        }
-        self.silenced[position] = on;
+        *self.silenced.get_mut(position).ok_or(NoSuchPosition)? = on;
         Ok(())
     }
 }

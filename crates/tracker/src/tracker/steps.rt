@@ -42,8 +42,8 @@ impl<'a> Tracker<'a> {
         changed
     }
 
-    // The wafer goes; its place is vacant, and both are reported. The flag is the place's silence switch: an Option
-    // is no plainer.
+    // The wafer goes; its place is vacant, and both are reported. The flag is the place's switch, which is on whether
+    // or not there is something to report: an Option of the report is no plainer.
     pub(crate) fn take_exit<S: Sink>(
         &mut self,
         sink: &mut S,

@@ -2,10 +2,10 @@ use Rattle.std.proofs.Common.{◌++◌, sym, ap, ◌∙◌, arith, vec_items}
 use Rattle.std.specs.List.{flat_map}
 use Rattle.std.proofs.Output.{has_written_of_eq}
 use Rattle.std.proofs.lemmas.List.{take_all}
+use Rattle.std.proofs.lemmas.List.Folds.{flat_map-map}
 use Rattle.packed_log.specs.Shown.{log_shown}
 use Rattle.reports.specs.Fields.{shown}
 use Rattle.replies.specs.Replies.{verdict, indented, report_line}
-use Rattle.replies.proofs.Said.{flat_map-map}
 use Rattle.replies.proofs.reply.LogLinesDisplay.fmt.Goals as goal
 
 pub returns-clause-writes : goal.returns-clause-writes
