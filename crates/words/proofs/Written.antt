@@ -1,5 +1,5 @@
 -- What is written reads as what it came from.
-use Rattle.std.proofs.Common.{◌≡◌, ℕ, ◌+◌, ◌-◌, ◌*◌, ◌/◌, ◌%◌, ◌^◌, ◌<◌, Bool, true, false, cond, not, ◌||◌, eqb, List, [], ◌∷◌, ◌++◌, length, get_or, take, Some, sym, refl, ap, ◌∙◌, arith}
+use Rattle.std.proofs.Common.{◌≡◌, ℕ, ◌+◌, ◌-◌, ◌*◌, ◌/◌, ◌%◌, ◌^◌, ◌<◌, Bool, true, false, cond, not, ◌&&◌, ◌||◌, eqb, List, [], ◌∷◌, ◌++◌, length, get_or, take, Some, sym, refl, ap, ◌∙◌, arith}
 use Rattle.std.specs.Int.Digits.{AllBelowBase}
 use Rattle.std.specs.List.{flat_map}
 use Rattle.std.specs.Fmt.{padded_integral, format_spec, digits_output, radix_digits, styled_digits_output, digit_glyph, HasWritten}
@@ -11,7 +11,7 @@ use Rattle.std.proofs.lemmas.List.{flat_map_more, take_more}
 use Rattle.std.proofs.lemmas.Bool.{cond-true, cond-false, and_left, and_parts, or_parts, not-true}
 use Rattle.std.proofs.lemmas.Bool.Decides.{nat_tests}
 use Rattle.words.specs.Hex.{hex_digit, hex_byte, hex_word, glyph, hex_pair, hex_digits, paired, before}
-use Rattle.words.specs.Texts.{graphic, stands, unescaped, is_no_text, text_word, escaped_byte}
+use Rattle.words.specs.Texts.{graphic, stands, unescaped, is_no_text, text_word, written_byte, escaped_byte, escaped}
 use Rattle.words.specs.Laws.{HexReadsBack, TextReadsBack}
 
 digit_glyph-is : (d : ℕ) → d < 16 → digit_glyph true d ≡ glyph d
@@ -72,6 +72,14 @@ pub text_reads_back : TextReadsBack
 unfolding text_word
 text_reads_back [] u = refl
 text_reads_back (b ∷ bs) u = cond-false _ _ _ (some_text b (flat_map escaped_byte bs) (stands b) refl) ∙ bytes_back (b ∷ bs) u
+
+escaped_byte-is : (b : ℕ) → written_byte (37 ∷ 35 ∷ []) b ≡ escaped_byte b
+escaped_byte-is b = ap (λ t. cond (graphic b && not t) (b ∷ []) (37 ∷ hex_pair b)) (grind (arith, nat_tests))
+
+-- bytes that are there, with `%` and `#` escaped
+pub escaped_bytes-is : (bs : List ℕ) → 0 < length bs → flat_map (written_byte (37 ∷ 35 ∷ [])) bs ≡ escaped bs
+escaped_bytes-is [] h = absurd (omega arith)
+escaped_bytes-is (b ∷ bs) h = λ i. flat_map (λ b. escaped_byte-is b i) (b ∷ bs)
 
 -- one byte more is written, after those before it
 pub has_written_more : {W : Type 0} (took : W → List ℕ → W → Type 0) (text : ℕ → List ℕ) (bs : List ℕ) (i : ℕ) (f g h : Formatter W) → i < length bs → HasWritten took f (flat_map text (take i bs)) g → HasWritten took g (text (get_or bs i 0)) h

@@ -50,6 +50,7 @@ impl fmt::Display for HexDigits<'_> {
 }
 
 // The digits of bytes, which read as those bytes again.
+#[tactic(auto, using(crate::proofs::Written::hex_reads_back))]
 pub fn digits(heap: Global, bytes: &[u8]) -> Result<String, AllocError>
     ensures value { IfOk result (λ s. string_bytes s ≡ hex_digits bytes.now) }
     ensures reads { HexReadsBack }

@@ -88,6 +88,7 @@ impl fmt::Display for TextWord<'_> {
 }
 
 // The word that stands for bytes, and reads as them again.
+#[tactic(auto, using(crate::proofs::Written::text_reads_back))]
 pub fn escaped(heap: Global, bytes: &[u8]) -> Result<String, AllocError>
     ensures value { IfOk result (λ s. string_bytes s ≡ escaped bytes.now) }
     ensures reads { TextReadsBack }
