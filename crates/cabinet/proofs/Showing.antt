@@ -2,7 +2,7 @@
 use Rattle.std.proofs.Common.{◌≡◌, ℕ, suc, pred, ◌+◌, ◌≤◌, Bool, true, false, cond, not, ◌&&◌, eqb, ltb, List, [], ◌∷◌, length, is_some, Some, None, Option, sym, refl, ap, ◌∙◌, subst, arith, length-set, is_none, position}
 use Rattle.std.specs.Option.{option_map, option_flatten}
 use Rattle.std.specs.Str.{bytes_eq}
-use Rattle.std.proofs.lemmas.Bool.{cond-true, cond-false, and_left, and_right, and_from, lt-ltb, le-ltb, eqb-true}
+use Rattle.std.proofs.lemmas.Bool.{cond-true, cond-false, and_right, and_from, lt-ltb, le-ltb, eqb-true}
 use Rattle.std.proofs.lemmas.List.Sums.{count_by-le-length}
 use Rattle.std.proofs.lemmas.Bool.Decides.{Decides-eqb}
 use Rattle.std.proofs.lemmas.Option.{none-some, same_Some}
@@ -53,11 +53,6 @@ module _ {N : Type 0} where
       wafers_path (wafers_of wafers') (put_text (id_of w) (Some (held w)) (wafers_of wafers)) _ _ _ _ places
       (shown_put bytes_eq bytes_eq-Decides (option_map held) (wafer_row wafers') (wafer_row wafers) (id_of w) others (Some w) (own refl)) u (ap length e ∙ length-set wafers i (Some w))
       ∙ sym (cond-true (is_some (wafers_of wafers (id_of w))) _ _ (registered-at wafers (id_of w) ∙ ap is_some (sym p)))
-
-  -- a wafer that is registered is not inserted
-  pub known_shows : (wafers : List (Option Wafer)) (places : List (Option (Place N))) (id : Text) (w : Kept) → is_some (wafer_row wafers id) ≡ true → view_of wafers places ≡ inserted id w (view_of wafers places)
-  known_shows wafers places id w h =
-      sym (cond-false (is_none (wafers_of wafers id) && ltb (in_use wafers) (length wafers)) _ _ (and_left _ _ (ap not (occupied_mapped held (wafer_row wafers id) ∙ h))))
 
   pub inserted_shows : (wafers wafers' : List (Option Wafer)) (places : List (Option (Place N))) (w : Wafer) (r : Option ℕ)
       → wafer_row wafers (id_of w) ≡ None

@@ -4,13 +4,13 @@ use mathlib.Core.Path.{fun_ext}
 use Rattle.std.specs.Option.{option_map, option_flatten}
 use Rattle.std.proofs.lemmas.Bool.{false≢true, eqb-true}
 use Rattle.model.specs.Wafers.{Text}
-use Rattle.model.specs.Places.{Spot, sites, listed, put_code}
+use Rattle.model.specs.Places.{sites, listed, put_code}
 use Rattle.wafers.specs.declared.wafer.Wafer.{Wafer}
 use Rattle.wafers.specs.declared.place.Place.{Place}
 use Rattle.wafers.specs.Spots.{plan, occupant_of}
 use Rattle.wafers.specs.Views.{place_row, occupants_of}
 use Rattle.wafers.proofs.Plans.{plan-listed}
-use Rattle.cabinet.specs.Views.{View, Changed, ChangedAt, view_of, with_contents, noted, occupied_by, vacated}
+use Rattle.cabinet.specs.Views.{View, view_of, with_contents, occupied_by, vacated}
 
 -- what a look-up finds anyway is set
 put_same : {V : Type 0} (f : ℕ → V) (p : ℕ) (v : V) → f p ≡ v → put_code p v f ≡ f
@@ -38,28 +38,3 @@ module _ {N : Type 0} where
       go : (b : Bool) → listed (sites (plan places)) p ≡ b → cond b (vacated p v) v ≡ vacated p v
       go true x = refl
       go false x = ap (λ (o : ℕ → Option Text). with_contents (record { wafer = v.contents.wafer; used = v.contents.used; occupant = o }) v) (sym (put_same (occupants_of places) p None (none_there places p x)))
-
-  -- a place that gave way to one with another occupant, or with another note
-  pub occupied_from : (R : Place N → Place N → Type 0) (p : ℕ) (o : Option Text) (v v' : View N) → ((q r : Place N) → R q r → (occupant_of r ≡ o) × (r.note ≡ q.note)) → Changed R p v v' → v' ≡ occupied_by p o v
-  occupied_from R p o v v' h = go (sites v.plan p)
-    where
-      with_both : (ℕ → Option Text) → (ℕ → Option N) → View N
-      with_both f g = record { contents = record { wafer = v.contents.wafer; used = v.contents.used; occupant = f }; plan = v.plan; notes = g; rows = v.rows }
-
-      go : (s : Option Spot) → ChangedAt R p v v' s → v' ≡ cond (is_some s) (with_both (put_code p o v.contents.occupant) v.notes) v
-      go None e = e
-      go (Some s) (q, r, k, a, b, e) =
-          let n = ap (λ m. put_code p (Some m) v.notes) (h q r k).1 ∙ put_same v.notes p (Some q.note) b in
-          e ∙ (λ i. with_both (put_code p ((h q r k).0 i) v.contents.occupant) (n i))
-
-  pub noted_from : (R : Place N → Place N → Type 0) (p : ℕ) (n : N) (v v' : View N) → ((q r : Place N) → R q r → (occupant_of r ≡ occupant_of q) × (r.note ≡ n)) → Changed R p v v' → v' ≡ noted p n v
-  noted_from R p n v v' h = go (sites v.plan p)
-    where
-      with_both : (ℕ → Option Text) → (ℕ → Option N) → View N
-      with_both f g = record { contents = record { wafer = v.contents.wafer; used = v.contents.used; occupant = f }; plan = v.plan; notes = g; rows = v.rows }
-
-      go : (s : Option Spot) → ChangedAt R p v v' s → v' ≡ cond (is_some s) (record { contents = v.contents; plan = v.plan; notes = put_code p (Some n) v.notes; rows = v.rows }) v
-      go None e = e
-      go (Some s) (q, r, k, a, b, e) =
-          let o = ap (λ x. put_code p x v.contents.occupant) (h q r k).0 ∙ put_same v.contents.occupant p (occupant_of q) a in
-          e ∙ (λ i. with_both (o i) (put_code p (Some ((h q r k).1 i)) v.notes))

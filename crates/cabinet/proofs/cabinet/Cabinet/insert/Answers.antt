@@ -1,10 +1,6 @@
-use Rattle.std.proofs.Common.{not, is_some, sym, ap, ◌∙◌}
-use Rattle.std.specs.Str.{bytes_eq}
+use Rattle.std.proofs.Common.{not, ap, ◌∙◌}
 use Rattle.texts.specs.Meaning.{called, spelled}
-use Rattle.wafers.specs.Held.{held}
-use Rattle.wafers.specs.Views.{wafer_row}
-use Rattle.table.proofs.Keys.{found-position}
-use Rattle.cabinet.proofs.Showing.{absent, known_shows, inserted_shows}
+use Rattle.cabinet.proofs.Showing.{absent, inserted_shows}
 use Rattle.cabinet.proofs.cabinet.Cabinet.insert.Goals as goal
 
 pub invariant_of-self : goal.invariant_of-self
@@ -19,10 +15,3 @@ returns-then-is_none-clause-view g c =
     let n = absent a.wafers.rows.now (called c.args.wafer.id) _ _ (ap spelled c.text.ensures) c.find.ensures.none (c.is_none.ensures ∙ ap not c.if-is_none.true) in
     inserted_shows a.wafers.rows.now c.insert.new.self.rows.now a.places.rows.now c.args.wafer c.insert.result n
     c.insert.ensures.value c.insert.ensures.rows c.insert.ensures.used c.insert.ensures.own c.insert.ensures.others
-
-pub returns-else-is_none-clause-view : goal.returns-else-is_none-clause-view
-returns-else-is_none-clause-view g c =
-    let a = c.args.self.now in
-    let before = a.wafers.rows.now in
-    known_shows {N = g.row.N.Denot} before a.places.rows.now (called c.args.wafer.id) (held c.args.wafer)
-    (sym (ap (λ t. is_some (wafer_row before (spelled t))) c.text.ensures) ∙ found-position (λ v. called v.id) bytes_eq before (spelled c.text.result) ∙ sym (ap is_some c.find.ensures.value) ∙ c.is_none.ensures ∙ ap not c.if-is_none.false)
