@@ -5,7 +5,7 @@ use texts::text::Text;
 use values::code::Code;
 
 // A wafer registered at place 101 for destination 201.
-pub const SUBSTRATE: Numbers = Numbers {
+pub(crate) const SUBSTRATE: Numbers = Numbers {
     family: 0,
     row: 1,
     transport: 0,
@@ -19,7 +19,7 @@ pub const SUBSTRATE: Numbers = Numbers {
 };
 
 // Place 101 became occupied.
-pub const LOCATION: Numbers = Numbers {
+pub(crate) const LOCATION: Numbers = Numbers {
     family: 1,
     row: 1,
     transport: 0,
@@ -32,15 +32,15 @@ pub const LOCATION: Numbers = Numbers {
     destination: 0,
 };
 
-pub fn text(bytes: &[u8]) -> Result<Text, Fail> {
+pub(crate) fn text(bytes: &[u8]) -> Result<Text, Fail> {
     Text::new(bytes).ok_or_else(|| Fail::new("a text"))
 }
 
-pub fn code(number: u16) -> Result<Code, Fail> {
+pub(crate) fn code(number: u16) -> Result<Code, Fail> {
     Code::new(number).ok_or_else(|| Fail::new("a code"))
 }
 
-pub fn report(numbers: Numbers, id: &[u8]) -> Result<Report, Fail> {
+pub(crate) fn report(numbers: Numbers, id: &[u8]) -> Result<Report, Fail> {
     let raw = Raw {
         numbers,
         id,
