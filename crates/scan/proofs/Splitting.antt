@@ -1,20 +1,31 @@
--- A line cut at its blanks, and its words.
-use Rattle.std.proofs.Common.{◌≡◌, ℕ, Bool, true, false, cond, not, eqb, nat_eq, List, [], ◌∷◌, ◌++◌, length, sym, refl, ap, ◌∙◌, arith}
-use Rattle.std.specs.List.{filter, take_while, starts_with, slice_split, onto_first}
-use Rattle.std.proofs.lemmas.List.{append_assoc, append-nil}
-use Rattle.std.proofs.lemmas.List.Sums.{take_while-cons}
-use Rattle.std.proofs.lemmas.Bool.{cond-true, cond-false, eqb-true, eqb-false, ne_eqb}
-use Rattle.scan.specs.Lines.{is_blank, bare, split, line_words}
+-- A line cut at its comment and at its blanks, and its words.
+use Rattle.std.proofs.Common.{◌≡◌, ℕ, ◌+◌, ◌<◌, ◌≤◌, Bool, true, false, cond, not, ◌&&◌, eqb, List, [], ◌∷◌, ◌++◌, length, get_or, take, drop, sym, refl, ap, ◌∙◌, arith}
+use Rattle.std.specs.List.{filter, slice_split, onto_first}
+use Rattle.std.proofs.lemmas.List.{append_assoc, append-nil, take_more, take_all, at_drop_more, at_drop_all}
+use Rattle.std.proofs.lemmas.Bool.{cond-true, cond-false, ne_eqb}
+use Rattle.scan.specs.Lines.{is_blank, bare, closed, split}
+
+module _ (line : List ℕ) (fresh : Bool) (i : ℕ) (inside : i < length line) (so_far : take i line ++ bare fresh (drop i line) ≡ bare true line) where
+  now_at : take i line ++ bare fresh (get_or line i 0 ∷ drop (i + 1) line) ≡ bare true line
+  now_at = sym (ap (λ l. take i line ++ l) (at_drop_more (bare fresh) line i 0 inside)) ∙ so_far
+
+  -- a word begins here, with `#`
+  pub cut_here : fresh && eqb (get_or line i 0) 35 ≡ true → take i line ≡ bare true line
+  cut_here e = sym (append-nil _) ∙ sym (ap (λ l. take i line ++ l) (cond-true _ _ _ e)) ∙ now_at
+
+  -- it does not
+  pub goes_on : fresh && eqb (get_or line i 0) 35 ≡ false → take (i + 1) line ++ bare (is_blank (get_or line i 0)) (drop (i + 1) line) ≡ bare true line
+  goes_on e =
+      ap (λ l. l ++ bare (is_blank (get_or line i 0)) (drop (i + 1) line)) (take_more line i 0 inside) ∙ append_assoc (take i line) (get_or line i 0 ∷ []) _
+      ∙ sym (ap (λ l. take i line ++ l) (cond-false _ _ _ e)) ∙ now_at
+
+-- the line has come to its end
+pub ended : (line : List ℕ) (fresh : Bool) (i : ℕ) → length line ≤ i → take i line ++ bare fresh (drop i line) ≡ bare true line → line ≡ bare true line
+ended line fresh i h so_far =
+    sym (take_all i line h) ∙ sym (append-nil _) ∙ sym (ap (λ l. take i line ++ l) (at_drop_all (bare fresh) line i h)) ∙ so_far
 
 abbrev pub not_empty : List ℕ → Bool
 not_empty w = not (eqb (length w) 0)
-
-abbrev pub no_comment : List ℕ → Bool
-no_comment w = not (starts_with nat_eq w (35 ∷ []))
-
--- of the parts of a line, those before a comment that have any byte
-abbrev pub kept : List (List ℕ) → List (List ℕ)
-kept ws = take_while no_comment (filter not_empty ws)
 
 -- bytes before the first part
 abbrev before : List ℕ → List (List ℕ) → List (List ℕ)
@@ -25,53 +36,28 @@ before-onto_first : (w : List ℕ) (b : ℕ) (ws : List (List ℕ)) → before w
 before-onto_first w b [] = refl
 before-onto_first w b (x ∷ xs) = ap (λ l. l ∷ xs) (sym (append_assoc w (b ∷ []) x))
 
--- no word is begun
-abbrev fresh : List ℕ → Bool
-fresh [] = true
-fresh (c ∷ cs) = false
+filter-before_nil : (ws : List (List ℕ)) → filter not_empty (before [] ws) ≡ filter not_empty ws
+filter-before_nil [] = refl
+filter-before_nil (x ∷ xs) = refl
 
-kept-before_nil : (ws : List (List ℕ)) → kept (before [] ws) ≡ kept ws
-kept-before_nil [] = refl
-kept-before_nil (x ∷ xs) = refl
-
-kept-cons : (c : ℕ) (cs : List ℕ) (ws : List (List ℕ)) → kept ((c ∷ cs) ∷ ws) ≡ cond (no_comment (c ∷ cs)) ((c ∷ cs) ∷ kept ws) []
-kept-cons c cs ws =
+-- a word that has come to its end is kept, if it has any byte
+filter-closed : (w : List ℕ) (ws : List (List ℕ)) → filter not_empty ((w ++ []) ∷ ws) ≡ closed w ++ filter not_empty ws
+filter-closed [] ws = refl
+filter-closed (c ∷ cs) ws =
     let some : eqb (length (c ∷ cs)) 0 ≡ false = ne_eqb _ 0 (λ e. omega arith) in
-    ap (λ t. take_while no_comment (cond (not t) ((c ∷ cs) ∷ filter not_empty ws) (filter not_empty ws))) some ∙ take_while-cons no_comment (c ∷ cs) (filter not_empty ws)
+    ap (λ l. filter not_empty (l ∷ ws)) (append-nil (c ∷ cs)) ∙ ap (λ t. cond (not t) ((c ∷ cs) ∷ filter not_empty ws) (filter not_empty ws)) some
 
-kept-onto_first : (b : ℕ) (ws : List (List ℕ)) → eqb b 35 ≡ true → kept (onto_first b ws) ≡ []
-kept-onto_first b [] e = let h : b ≡ 35 = eqb-true b 35 e in rw h (kept-cons 35 [] [])
-kept-onto_first b (w ∷ ws) e = let h : b ≡ 35 = eqb-true b 35 e in rw h (kept-cons 35 w ws)
+-- a byte more; t says that it is blank
+one_more : (w : List ℕ) (b : ℕ) (bs : List ℕ) (ws : List (List ℕ)) (t : Bool) → filter not_empty (before [] ws) ≡ split [] bs → filter not_empty (before (w ++ b ∷ []) ws) ≡ split (w ++ b ∷ []) bs
+    → filter not_empty (before w (cond t ([] ∷ ws) (onto_first b ws))) ≡ cond t (closed w ++ split [] bs) (split (w ++ b ∷ []) bs)
+one_more w b bs ws true start on = filter-closed w ws ∙ ap (λ l. closed w ++ l) (sym (filter-before_nil ws) ∙ start)
+one_more w b bs ws false start on = ap (filter not_empty) (before-onto_first w b ws) ∙ on
 
-no_blank : (b : ℕ) → eqb b 35 ≡ true → is_blank b ≡ false
-no_blank b e = let h : b ≡ 35 = eqb-true b 35 e in rw h
+-- the parts of bs after the bytes of a word
+words_after : (w bs : List ℕ) → filter not_empty (before w (slice_split is_blank bs)) ≡ split w bs
+words_after w [] = filter-closed w [] ∙ append-nil (closed w)
+words_after w (b ∷ bs) = one_more w b bs (slice_split is_blank bs) (is_blank b) (words_after [] bs) (words_after (w ++ b ∷ []) bs)
 
-no_comment-cons : (b : ℕ) → eqb b 35 ≡ false → no_comment (b ∷ []) ≡ true
-no_comment-cons b e = let h : eqb 35 b ≡ false = ne_eqb 35 b (λ q. eqb-false b 35 e (sym q)) in rw h
-
--- a byte where no word is begun; t says that it is blank, and h that it is `#`
-at_start : (b : ℕ) (bs : List ℕ) (ws : List (List ℕ)) (t h : Bool) → is_blank b ≡ t → eqb b 35 ≡ h → kept (before [] ws) ≡ split [] (bare true bs)
-    → (no_comment (b ∷ []) ≡ true → kept (before (b ∷ []) ws) ≡ split (b ∷ []) (bare false bs))
-    → kept (before [] (cond t ([] ∷ ws) (onto_first b ws))) ≡ split [] (cond h [] (b ∷ bare t bs))
-at_start b bs ws true true e f start on = let g = no_blank b f in cc
-at_start b bs ws false true e f start on = kept-before_nil (onto_first b ws) ∙ kept-onto_first b ws f
-at_start b bs ws true false e f start on = sym (kept-before_nil ws) ∙ start ∙ sym (cond-true _ _ _ e)
-at_start b bs ws false false e f start on = ap kept (before-onto_first [] b ws) ∙ on (no_comment-cons b f) ∙ sym (cond-false _ _ _ e)
-
--- a byte after those of a word
-in_word : (c : ℕ) (cs : List ℕ) (b : ℕ) (bs : List ℕ) (ws : List (List ℕ)) (t : Bool) → no_comment (c ∷ cs) ≡ true → is_blank b ≡ t → kept (before [] ws) ≡ split [] (bare true bs)
-    → kept (before (c ∷ cs ++ b ∷ []) ws) ≡ split (c ∷ cs ++ b ∷ []) (bare false bs)
-    → kept (before (c ∷ cs) (cond t ([] ∷ ws) (onto_first b ws))) ≡ split (c ∷ cs) (b ∷ bare t bs)
-in_word c cs b bs ws true w e start on =
-    ap (λ l. kept (l ∷ ws)) (append-nil (c ∷ cs)) ∙ kept-cons c cs ws ∙ cond-true _ _ _ w ∙ ap (λ l. (c ∷ cs) ∷ l) (sym (kept-before_nil ws) ∙ start) ∙ sym (cond-true _ _ _ e)
-in_word c cs b bs ws false w e start on = ap kept (before-onto_first (c ∷ cs) b ws) ∙ on ∙ sym (cond-false _ _ _ e)
-
--- the parts of bs after the bytes of a word; no word is begun, or one that is no comment
-words_after : (w bs : List ℕ) → no_comment w ≡ true → kept (before w (slice_split is_blank bs)) ≡ split w (bare (fresh w) bs)
-words_after [] [] e = refl
-words_after (c ∷ cs) [] e = ap (λ l. kept (l ∷ [])) (append-nil (c ∷ cs)) ∙ kept-cons c cs [] ∙ cond-true _ _ _ e
-words_after [] (b ∷ bs) e = at_start b bs (slice_split is_blank bs) (is_blank b) (eqb b 35) refl refl (words_after [] bs refl) (λ w. words_after (b ∷ []) bs w)
-words_after (c ∷ cs) (b ∷ bs) e = in_word c cs b bs (slice_split is_blank bs) (is_blank b) e refl (words_after [] bs refl) (words_after (c ∷ cs ++ b ∷ []) bs e)
-
-pub kept-slice_split : (line : List ℕ) → kept (slice_split is_blank line) ≡ line_words line
-kept-slice_split line = sym (kept-before_nil (slice_split is_blank line)) ∙ words_after [] line refl
+-- of the parts of a line, those that have any byte
+pub filter-slice_split : (told : List ℕ) → filter not_empty (slice_split is_blank told) ≡ split [] told
+filter-slice_split told = sym (filter-before_nil (slice_split is_blank told)) ∙ words_after [] told

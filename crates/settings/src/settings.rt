@@ -1,15 +1,14 @@
 ghost use Rattle.std.specs.Prelude.{◌≤◌};
-ghost use Rattle.arrayvec.specs.ArrayVec.{array_vec_len};
 
 pub mod switching;
 
-use arrayvec::ArrayVec;
-
 // The reader switch, and a silence switch for each place of the list, by its position.
+// An array and a count: the memory is fixed, there is no heap, and the kit's `ArrayVec` would be one thing more to trust.
 #[derive(Drop)]
 pub struct Settings {
     reader: bool,
-    silenced: ArrayVec<bool, 128>,
-    ghost some: { 1 ≤ array_vec_len silenced },
-    ghost few: { array_vec_len silenced ≤ 128 },
+    silenced: [bool; 128],
+    count: usize,
+    ghost some: { 1 ≤ count },
+    ghost few: { count ≤ 128 },
 }

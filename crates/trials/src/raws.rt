@@ -159,3 +159,26 @@ fn texts_of_reports(rt: HostRuntime) {
     assert_eq!(rt; refused(raw(unoccupied, b"A1", b"")), Some(Field::Id));
     assert_eq!(rt; refused(raw(unoccupied, b"", b"")), None);
 }
+
+// Each field, and the number by which a refusal names it.
+const NUMBERS: [(Field, u8); 12] = [
+    (Field::Family, 1),
+    (Field::Row, 2),
+    (Field::Transport, 3),
+    (Field::Processing, 4),
+    (Field::Reading, 5),
+    (Field::Spare, 6),
+    (Field::Time, 7),
+    (Field::Place, 8),
+    (Field::Source, 9),
+    (Field::Destination, 10),
+    (Field::Id, 11),
+    (Field::Acquired, 12),
+];
+
+#[test]
+fn numbers_of_fields(rt: HostRuntime) {
+    for (field, number) in &NUMBERS {
+        assert_eq!(rt; u8::from(*field), *number);
+    }
+}

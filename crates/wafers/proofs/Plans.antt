@@ -1,14 +1,17 @@
 -- The plan of the cabinet and the place rows that it is read from.
-use Rattle.std.proofs.Common.{◌≡◌, ℕ, zero, suc, ◌+◌, Bool, true, false, cond, not, eqb, ltb, List, [], ◌∷◌, set, Some, None, Option, refl, ap, ◌∙◌, is_some, position}
+use Rattle.std.proofs.Common.{◌≡◌, ℕ, zero, suc, ◌+◌, Bool, true, false, cond, not, ◌&&◌, eqb, ltb, List, [], ◌∷◌, set, Some, None, Option, refl, ap, ◌∙◌, is_some, position}
 use Rattle.std.specs.List.{position_or_len}
 use Rattle.std.specs.Option.{option_map}
 use Rattle.std.proofs.lemmas.List.{length-map}
 use Rattle.table.specs.Lookup.{bears, row_at}
+use Rattle.model.specs.Calls.{promised_to}
 use Rattle.model.specs.Places.{code_at, index, listed, sites}
+use Rattle.model.specs.Wafers.{Text}
 use Rattle.values.specs.Values.{coded}
 use Rattle.wafers.specs.Spots.{plan, spot_of}
-use Rattle.wafers.specs.Views.{place_row}
+use Rattle.wafers.specs.Views.{place_row, promises_of}
 use Rattle.wafers.specs.declared.place.Place.{Place}
+use Rattle.wafers.specs.declared.place.Promise.{Promise}
 
 either_row : {X Y : Type 0} (f : X → Y) (b : Bool) (x : X) (y : Option Y) (o : Option X) → y ≡ option_map f o → cond b (Some (f x)) y ≡ option_map f (cond b (Some x) o)
 either_row f true x y o e = refl
@@ -49,3 +52,11 @@ module _ {N : Type 0} where
   plan-set [] i o e = refl
   plan-set (x ∷ rows) zero o e = ap (λ s. s ∷ plan rows) e
   plan-set (x ∷ rows) (suc i) o e = ap (λ ss. option_map spot_of x ∷ ss) (plan-set rows i o e)
+
+-- a place that is promised to a wafer is listed
+pub promised_listed : (rows : List (Option (Place (Option Promise)))) (p : ℕ) (id : Text) → promised_to (promises_of rows p) id ≡ (listed (sites (plan rows)) p && promised_to (promises_of rows p) id)
+promised_listed rows p id = found (place_row rows p) refl
+  where
+    found : (o : Option (Place (Option Promise))) → place_row rows p ≡ o → promised_to (promises_of rows p) id ≡ (listed (sites (plan rows)) p && promised_to (promises_of rows p) id)
+    found None e = simp (plan-listed rows p, e)
+    found (Some r) e = simp (plan-listed rows p, e)

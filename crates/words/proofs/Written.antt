@@ -1,30 +1,16 @@
 -- What is written reads as what it came from.
-use Rattle.std.proofs.Common.{◌≡◌, ℕ, ◌+◌, ◌-◌, ◌*◌, ◌/◌, ◌%◌, ◌^◌, ◌<◌, Bool, true, false, cond, not, ◌&&◌, ◌||◌, eqb, List, [], ◌∷◌, ◌++◌, length, get_or, take, Some, sym, refl, ap, ◌∙◌, arith}
+use Rattle.std.proofs.Common.{◌≡◌, ℕ, ◌+◌, ◌*◌, ◌/◌, ◌%◌, ◌<◌, Bool, true, false, cond, not, ◌&&◌, ◌||◌, eqb, List, [], ◌∷◌, ◌++◌, length, get_or, take, Some, sym, refl, ap, ◌∙◌, arith}
 use Rattle.std.specs.Int.Digits.{AllBelowBase}
 use Rattle.std.specs.List.{flat_map}
-use Rattle.std.specs.Fmt.{padded_integral, format_spec, digits_output, radix_digits, styled_digits_output, digit_glyph, HasWritten}
-use Rattle.std.specs.Option.{option_map}
+use Rattle.std.specs.Fmt.{HasWritten}
 use Rattle.std.specs.declared.fmt.Formatter.{Formatter}
 use Rattle.std.proofs.Output.{has_written_append, has_written_of_eq}
-use Rattle.std.proofs.lemmas.Fmt.{hex_byte as hex_byte_shown}
 use Rattle.std.proofs.lemmas.List.{flat_map_more, take_more}
 use Rattle.std.proofs.lemmas.Bool.{cond-true, cond-false, and_left, and_parts, or_parts, not-true}
 use Rattle.std.proofs.lemmas.Bool.Decides.{nat_tests}
 use Rattle.words.specs.Hex.{hex_digit, hex_byte, hex_word, glyph, hex_pair, hex_digits, paired, before}
 use Rattle.words.specs.Texts.{graphic, stands, unescaped, is_no_text, text_word, written_byte, escaped_byte, escaped}
 use Rattle.words.specs.Laws.{HexReadsBack, TextReadsBack}
-
-digit_glyph-is : (d : ℕ) → d < 16 → digit_glyph true d ≡ glyph d
-digit_glyph-is d h = grind (arith, nat_tests)
-
--- what `{:02X}` writes of a byte
-pub styled-hex_pair : (b : ℕ) (d : _) (s : _) → b < 256 → digits_output d ≡ Some (radix_digits 16 true b) → s ≡ format_spec 32 0 4 2 (2 ^ 64 - 1) → styled_digits_output d s ≡ Some (hex_pair b)
-styled-hex_pair b d s h e f =
-    let high : b / 16 < 16 = omega arith in
-    let low : b % 16 < 16 = omega arith in
-    let options = format_spec 32 0 4 2 (2 ^ 64 - 1) in
-    ap (styled_digits_output d) f ∙ ap (option_map (padded_integral options false [])) e
-    ∙ ap Some (hex_byte_shown true b h ∙ ap (λ g. g ∷ digit_glyph true (b % 16) ∷ []) (digit_glyph-is (b / 16) high) ∙ ap (λ g. glyph (b / 16) ∷ g ∷ []) (digit_glyph-is (b % 16) low))
 
 digit_back : (d : ℕ) → d < 16 → hex_digit (glyph d) ≡ Some d
 digit_back d h = grind (arith, nat_tests)

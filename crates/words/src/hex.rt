@@ -1,6 +1,6 @@
-ghost use Rattle.std.specs.Prelude.{◌≡◌, IfOk, Some, vec_items, string_bytes};
+ghost use Rattle.std.specs.Prelude.{◌≡◌, ◌<◌, IfOk, Some, vec_items, string_bytes, IsAscii};
 ghost use Rattle.std.specs.Option.{option_map};
-ghost use Rattle.words.specs.Hex.{hex_byte, hex_word, hex_digits};
+ghost use Rattle.words.specs.Hex.{hex_byte, hex_word, hex_digits, hex_pair, glyph};
 ghost use Rattle.words.specs.Laws.{HexReadsBack};
 
 use std::alloc::{AllocError, Global};
@@ -34,6 +34,34 @@ pub fn bytes(heap: Global, word: &[u8]) -> Result<Option<Vec<u8>>, AllocError>
     Ok(Some(out))
 }
 
+// ASCII bytes as a text. That they are UTF-8 is proved, and they are not looked at again.
+pub(crate) fn ascii(bytes: &[u8]) -> &str
+    requires { IsAscii bytes.now }
+    ensures { result.now ≡ bytes.now }
+{
+    unsafe { std::str::from_utf8_unchecked(bytes) }
+}
+
+// The digit of a value below 16.
+fn digit(value: u8) -> u8
+    requires { value < 16 }
+    ensures { result ≡ glyph value }
+{
+    if value < 10 {
+        b'0' + value
+    } else {
+        b'A' - 10 + value
+    }
+}
+
+// A byte's two digits. Not `{:02X}`, which takes several times as long.
+pub(crate) fn pair(b: u8) -> [u8; 2]
+    ensures value { result ≡ hex_pair b }
+    ensures ascii { IsAscii result }
+{
+    [digit(b / 16), digit(b % 16)]
+}
+
 // Bytes as hex digits, two for each.
 #[derive(Clone, Copy)]
 pub struct HexDigits<'a>(pub &'a [u8]);
@@ -43,7 +71,7 @@ impl fmt::Display for HexDigits<'_> {
 
     fn fmt<W: fmt::Write>(&self, f: &mut fmt::Formatter<W>) -> fmt::Result {
         for &b in self.0 {
-            write!(f, "{b:02X}")?;
+            f.write_str(ascii(&pair(b)))?;
         }
         Ok(())
     }

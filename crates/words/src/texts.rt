@@ -1,9 +1,9 @@
-ghost use Rattle.std.specs.Prelude.{◌≡◌, ◌<◌, [], ◌∷◌, map, length, IsTrue, if◌then◌else◌, IfOk, IfSome, Some, vec_items, string_bytes};
+ghost use Rattle.std.specs.Prelude.{◌≡◌, ◌<◌, ◌==◌, ◌&&◌, ◌∷◌, not, map, length, position, IfOk, IfSome, Some, vec_items, string_bytes};
 ghost use Rattle.std.specs.Option.{option_map};
-ghost use Rattle.std.specs.List.{flat_map};
+ghost use Rattle.std.specs.List.{flat_map, list_any};
 ghost use Rattle.std.specs.Fmt.{WritesOnOk};
 ghost use Rattle.words.specs.Hex.{hex_pair};
-ghost use Rattle.words.specs.Texts.{first_byte, unescaped, text_word, written_byte, escaped, echoed_byte, echoed};
+ghost use Rattle.words.specs.Texts.{graphic, first_byte, unescaped, text_word, written_byte, escaped, echoed_byte, echoed};
 ghost use Rattle.words.specs.Laws.{TextReadsBack};
 
 use crate::hex;
@@ -46,19 +46,25 @@ pub fn bytes(heap: Global, word: &[u8]) -> Result<Option<Vec<u8>>, AllocError>
     }
 }
 
-// Writes a byte as it is where it `stands`, and else as `%` and its two hex digits.
-fn write_byte<W: fmt::Write>(f: &mut fmt::Formatter<W>, b: u8, stands: bool) -> fmt::Result
-    requires { IsTrue stands → b < 128 }
-    ensures { WritesOnOk W.write_str_gives f.old result (if stands then b ∷ [] else 37 ∷ hex_pair b) f.new }
+// The position of the first byte that is not written as it is; a graphic one that is not among the `escapes` is.
+fn first_escape(bytes: &[u8], escapes: &[u8]) -> Option<usize>
+    ensures { result ≡ position (λ b. not (graphic b && not (list_any (λ e. e == b) escapes.now))) bytes.now }
 {
-    if stands {
-        f.write_char(char::from(b))
-    } else {
-        write!(f, "%{b:02X}")
-    }
+    bytes
+        .iter()
+        .position(|b| !(b.is_ascii_graphic() && !escapes.contains(b)))
 }
 
-// Writes bytes: a graphic one that is not among the `escapes` as it is, and each other one as `%` and its two hex digits.
+// Writes `%` and a byte's two hex digits.
+fn write_code<W: fmt::Write>(f: &mut fmt::Formatter<W>, b: u8) -> fmt::Result
+    ensures { WritesOnOk W.write_str_gives f.old result (37 ∷ hex_pair b) f.new }
+{
+    let [high, low] = hex::pair(b);
+    f.write_str(hex::ascii(&[b'%', high, low]))
+}
+
+// Writes bytes: a graphic one that is not among the `escapes` as it is, and each other one as `%` and its two hex digits. What
+// stands between two escapes is written at once, which takes a fraction of the time of byte after byte.
 fn write_bytes<W: fmt::Write>(
     f: &mut fmt::Formatter<W>,
     bytes: &[u8],
@@ -66,10 +72,13 @@ fn write_bytes<W: fmt::Write>(
 ) -> fmt::Result
     ensures { WritesOnOk W.write_str_gives f.old result (flat_map (written_byte escapes.now) bytes.now) f.new }
 {
-    for &b in bytes {
-        write_byte(f, b, b.is_ascii_graphic() && !escapes.contains(&b))?;
+    let mut left = bytes;
+    while let Some(n) = first_escape(left, escapes) {
+        f.write_str(hex::ascii(&left[..n]))?;
+        write_code(f, left[n])?;
+        left = &left[n + 1..];
     }
-    Ok(())
+    f.write_str(hex::ascii(left))
 }
 
 // The word that stands for the bytes of a text.

@@ -6,7 +6,6 @@ ghost use Rattle.settings.specs.Making.{by_switches, made_for, switch_there};
 ghost use Rattle.settings.specs.Meaning.{switches};
 
 use crate::settings::Settings;
-use arrayvec::ArrayVec;
 
 // No place list has this number of places.
 #[derive(Clone, Copy, Debug, PartialEq, Eq)]
@@ -27,11 +26,10 @@ impl Settings {
         if count == 0 || count > Settings::MOST {
             return Err(NoSuchCount);
         }
-        let mut silenced = ArrayVec::from([false; Settings::MOST]);
-        silenced.truncate(count);
         Ok(Settings {
             reader: false,
-            silenced,
+            silenced: [false; Settings::MOST],
+            count,
         })
     }
 
@@ -39,7 +37,7 @@ impl Settings {
     pub fn count(&self) -> usize
         ensures { result ≡ (switches self.now).count }
     {
-        self.silenced.len()
+        self.count
     }
 
     pub fn reader(&self) -> bool
@@ -58,7 +56,10 @@ impl Settings {
     pub fn is_silenced(&self, position: usize) -> bool
         ensures { result ≡ (switches self.now).silent position }
     {
-        self.silenced.get(position).copied().unwrap_or(false)
+        self.silenced[..self.count]
+            .get(position)
+            .copied()
+            .unwrap_or(false)
     }
 
     // Sets the switch of a position, refused where there is no place at it; then nothing changes.
@@ -67,7 +68,11 @@ impl Settings {
         ensures switches { switches self.new ≡ silenced_at position on (switches self.old) }
         ensures refused { (switches self.old).count ≤ position → self.new ≡ self.old }
     {
-        *self.silenced.get_mut(position).ok_or(NoSuchPosition)? = on;
+        // An index: with get_mut on the switches in use the proof did not close, since a field beside a ghost field is not lent.
+        if position >= self.count {
+            return Err(NoSuchPosition);
+        }
+        self.silenced[position] = on;
         Ok(())
     }
 }
