@@ -9,7 +9,7 @@ fn main(rt: HostRuntime) -> io::Result<()> {
     let heap = rt.alloc();
     let mut input = BufReader::new(heap, rt.stdin())?;
     let mut output = rt.stdout();
-    // One buffer for all lines, for speed: `split` takes memory for each, and a script of blank lines takes three times as long.
+    // One buffer for all lines, for speed: `split` takes memory for each, and a script of blank lines takes over twice as long.
     let mut line = Vec::new(heap);
     for _ in 0..u64::MAX {
         line.clear();
